@@ -1,0 +1,34 @@
+// What the cue checker does with a sheet on its standard input.
+use book::Book;
+use history::Act;
+use history::Entry;
+use items::Axis;
+use items::AxisItem;
+use std::io;
+use std::io::Read;
+
+// How many entries the book holds.
+const PLACES: usize = 2048;
+
+// How much of the input is read: a line more than the book holds.
+const SHEET: u64 = 32_784;
+
+// Reads a sheet of axes into a book, and prints the first fault or how many entries were read.
+pub fn run(rt: &LibcRuntime) -> io::Result<()> {
+    let mut sheet = Vec::new(rt.alloc());
+    rt.stdin().take(SHEET).read_to_end(&mut sheet)?;
+    let free: Entry<Axis> = Entry {
+        cue: 0,
+        act: Act::Abort,
+    };
+    let mut memory = [free; PLACES];
+    let mut book = Book::new(&mut memory);
+    match book.read_in(sheet.as_slice()) {
+        Ok(lines) => println!(rt, "entries{lines:>5}"),
+        Err(fault) => {
+            let number = fault.number();
+            let line = fault.line;
+            println!(rt, "fault{number:>5}{line:>5}")
+        }
+    }
+}

@@ -1,0 +1,4 @@
+pub mod Letters
+pub mod Fields
+pub mod Words
+pub mod Marks

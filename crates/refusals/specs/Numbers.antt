@@ -1,0 +1,18 @@
+-- The number of each refusal, as callers and printed faults know it. Assumes nothing.
+use Prim.Native.Nat.{ℕ}
+use Rattle.refusals.specs.declared.LineRefusal.{LineRefusal}
+use Rattle.refusals.specs.declared.LineRefusal.the-variants.{Shape, CueField, Letter, ItemField}
+use Rattle.refusals.specs.declared.Refusal.{Refusal}
+use Rattle.refusals.specs.declared.Refusal.the-variants.{NoSuchCue, CueEnded, BookFull, SpaceShort}
+
+abbrev pub lineNumberOf : LineRefusal → ℕ
+lineNumberOf Shape = 1
+lineNumberOf CueField = 2
+lineNumberOf Letter = 3
+lineNumberOf ItemField = 4
+
+abbrev pub numberOf : Refusal → ℕ
+numberOf NoSuchCue = 11
+numberOf CueEnded = 12
+numberOf BookFull = 13
+numberOf SpaceShort = 26

@@ -1,0 +1,55 @@
+// Why a call is refused, and the number that each refusal is known by.
+ghost use mathlib.Core.Path.{_≡_};
+ghost use Rattle.refusals.specs.Numbers.{numberOf, lineNumberOf};
+
+// Why a line of a sheet is not read.
+#[derive(Clone, Copy, PartialEq, Eq, Debug)]
+pub enum LineRefusal {
+    // Too few bytes remain, or the line feed is not the line's last byte.
+    Shape,
+    // The cue field holds no number.
+    CueField,
+    // Column 6 holds none of the letters, or a column beside it is not blank.
+    Letter,
+    // The item field cannot be read, or should be blank and is not.
+    ItemField,
+}
+
+impl LineRefusal {
+    pub fn number(self) -> u32
+        ensures { λ r. ⌜ r ≡ lineNumberOf self ⌝ }
+    {
+        match self {
+            LineRefusal::Shape => 1,
+            LineRefusal::CueField => 2,
+            LineRefusal::Letter => 3,
+            LineRefusal::ItemField => 4,
+        }
+    }
+}
+
+// Why a call is refused. A refused call writes nothing.
+#[derive(Clone, Copy, PartialEq, Eq, Debug)]
+pub enum Refusal {
+    // The cue number is outside 1 to 64.
+    NoSuchCue,
+    // The cue has a commit or an abort.
+    CueEnded,
+    // The book has no free place.
+    BookFull,
+    // The space for a written line is shorter than 16 bytes.
+    SpaceShort,
+}
+
+impl Refusal {
+    pub fn number(self) -> u32
+        ensures { λ r. ⌜ r ≡ numberOf self ⌝ }
+    {
+        match self {
+            Refusal::NoSuchCue => 11,
+            Refusal::CueEnded => 12,
+            Refusal::BookFull => 13,
+            Refusal::SpaceShort => 26,
+        }
+    }
+}
