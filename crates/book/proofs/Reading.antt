@@ -16,8 +16,8 @@ use Rattle.refusals.specs.declared.Refusal.{Refusal}
 use Rattle.history.specs.declared.Entry.{Entry}
 use Rattle.lines.specs.Reading.{lineIn, nextIn}
 use Rattle.lines.specs.Reading as lines
-use Rattle.book.specs.declared.sheets.Layer.{Layer}
-use Rattle.book.specs.declared.sheets.Layer.the-variants.{Line, Book}
+use Rattle.refusals.specs.declared.Layer.{Layer}
+use Rattle.refusals.specs.declared.Layer.the-variants.{Line, Book}
 use Rattle.book.specs.declared.sheets.ReadFault.{ReadFault}
 use Rattle.book.specs.Entering.{entered}
 use Rattle.book.specs.Reading.{Taken, linesBy, linesOf, ofBook, ofLine, lineEntered, some, nextEntered, told, added, step, readFrom}

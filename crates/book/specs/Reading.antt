@@ -9,11 +9,10 @@ use Rattle.std.specs.declared.result.Result.{Result}
 use Rattle.std.specs.declared.result.Result.the-variants.{Ok, Err}
 use Rattle.refusals.specs.declared.LineRefusal.{LineRefusal}
 use Rattle.refusals.specs.declared.Refusal.{Refusal}
-use Rattle.refusals.specs.Numbers.{lineNumberOf, numberOf}
 use Rattle.history.specs.declared.Entry.{Entry}
 use Rattle.lines.specs.Reading.{lineIn}
-use Rattle.book.specs.declared.sheets.Layer.{Layer}
-use Rattle.book.specs.declared.sheets.Layer.the-variants.{Line, Book}
+use Rattle.refusals.specs.declared.Layer.{Layer}
+use Rattle.refusals.specs.declared.Layer.the-variants.{Line, Book}
 use Rattle.book.specs.declared.sheets.ReadFault.{ReadFault}
 use Rattle.book.specs.Entering.{entered}
 
@@ -24,10 +23,6 @@ linesBy (suc n) bs = take 16 bs ∷ linesBy n (drop 16 bs)
 
 abbrev pub linesOf : List ℕ → List (List ℕ)
 linesOf bs = linesBy ((length bs + 15) / 16) bs
-
-abbrev pub layerNumber : Layer → ℕ
-layerNumber (Line f) = lineNumberOf f
-layerNumber (Book f) = numberOf f
 
 module _ {K : Type 0} where
   abbrev pub ofBook : Entry K → Result ℕ Refusal → Result (Entry K) Layer

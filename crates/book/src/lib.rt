@@ -12,9 +12,6 @@ use history::Entry;
 use history::has_ended;
 use history::is_cue;
 use refusals::Refusal;
-pub use sheets::BookLayer;
-pub use sheets::Layer;
-pub use sheets::LineLayer;
 pub use sheets::ReadFault;
 
 // How many places a book uses at most.

@@ -1,58 +1,22 @@
 // Reading a sheet into a book.
 ghost use mathlib.Core.Path.{_≡_};
-ghost use Rattle.book.specs.declared.sheets.Layer.the-variants.{Line, Book as OfBook};
 ghost use Rattle.book.specs.Entering.{room, accepted, Lays};
-ghost use Rattle.book.specs.Reading.{layerNumber, nextEntered, told, added, readIn};
+ghost use Rattle.book.specs.Reading.{nextEntered, told, added, readIn};
 use crate::Book;
 use items::Item;
 use lines::LINE;
 use lines::read_line;
-use refusals::LineRefusal;
-use refusals::LineRefusalDebug;
-use refusals::LineRefusalPartialEq;
-use refusals::Refusal;
-use refusals::RefusalDebug;
-use refusals::RefusalPartialEq;
-
-// Which layer refused a line, with its refusal whole.
-#[derive(Clone, Copy, PartialEq, Eq, Debug)]
-pub enum Layer {
-    Line(LineRefusal),
-    Book(Refusal),
-}
-
-pub impl From<LineRefusal> for Layer as LineLayer {
-    ghost converts = { λ f r. r ≡ Line f };
-
-    fn from(refusal: LineRefusal) -> Layer {
-        Layer::Line(refusal)
-    }
-}
-
-pub impl From<Refusal> for Layer as BookLayer {
-    ghost converts = { λ f r. r ≡ OfBook f };
-
-    fn from(refusal: Refusal) -> Layer {
-        Layer::Book(refusal)
-    }
-}
+use refusals::BookLayer;
+use refusals::Layer;
+use refusals::LayerDebug;
+use refusals::LayerPartialEq;
+use refusals::LineLayer;
 
 // Why a sheet is not read to its end: the first line that was refused, counted from 1.
 #[derive(Clone, Copy, PartialEq, Eq, Debug)]
 pub struct ReadFault {
     pub line: usize,
     pub layer: Layer,
-}
-
-impl ReadFault {
-    pub fn number(&self) -> u32
-        ensures { λ r. ⌜ r ≡ layerNumber (now (self .entry) .layer) ⌝ }
-    {
-        match self.layer {
-            Layer::Line(refusal) => refusal.number(),
-            Layer::Book(refusal) => refusal.number(),
-        }
-    }
 }
 
 impl<'a, K: Item> Book<'a, K> {

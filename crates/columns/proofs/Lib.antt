@@ -1,2 +1,3 @@
 pub mod Blanks
 pub mod Numbers
+pub mod Unbroken

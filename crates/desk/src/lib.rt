@@ -26,7 +26,7 @@ pub fn run(rt: &LibcRuntime) -> io::Result<()> {
     match book.read_in(sheet.as_slice()) {
         Ok(lines) => println!(rt, "entries{lines:>5}"),
         Err(fault) => {
-            let number = fault.number();
+            let number = fault.layer.number();
             let line = fault.line;
             println!(rt, "fault{number:>5}{line:>5}")
         }

@@ -1,2 +1,4 @@
 pub mod Cutting
 pub mod Reading
+pub mod RoundTrip
+pub mod Writing

@@ -1,5 +1,5 @@
 -- The line that says an entry. Assumes nothing.
-use mathlib.Core.Bool.{Bool, true, cond, not}
+use mathlib.Core.Bool.{Bool, true, false, cond, not}
 use mathlib.Core.List.{List, [], _∷_, _++_}
 use mathlib.Core.Path.{_≡_}
 use Prim.Native.Nat.{ℕ}
@@ -8,6 +8,9 @@ use lib.ListN.{length, drop, replicate, take}
 use Rattle.std.specs.declared.result.Result.{Result}
 use Rattle.std.specs.declared.result.Result.the-variants.{Ok, Err}
 use Rattle.std.specs.declared.option.Option.{Option}
+use Rattle.std.specs.declared.option.Option.the-variants.{Some, None}
+use Rattle.refusals.specs.declared.Layer.{Layer}
+use Rattle.refusals.specs.declared.Layer.the-variants.{Line, Book}
 use Rattle.refusals.specs.declared.LineRefusal.{LineRefusal}
 use Rattle.refusals.specs.declared.Refusal.{Refusal}
 use Rattle.refusals.specs.declared.Refusal.the-variants.{NoSuchCue, SpaceShort}
@@ -16,7 +19,7 @@ use Rattle.history.specs.declared.Act.the-variants.{Read, Write, Commit, Abort}
 use Rattle.history.specs.declared.Entry.{Entry}
 use Rattle.history.specs.Entries.{isCue}
 use Rattle.columns.specs.Columns.{numberIn}
-use Rattle.lines.specs.Reading.{lineIn}
+use Rattle.lines.specs.Reading.{lineIn, nextIn}
 
 module _ {K : Type 0} where
   abbrev pub letterOf : Act K → ℕ
@@ -71,3 +74,25 @@ module _ {K : Type 0} where
     pub found : Entry K
     pub read : lineIn parsed bs ≡ Ok found
     pub same : SameEntry alike e found
+
+-- the answer to copying a line, by the answer to writing it: whether a line was copied
+abbrev copiedBy : Result (Unit {0}) Refusal → Result Bool Layer
+copiedBy (Ok x) = Ok true
+copiedBy (Err f) = Err (Book f)
+
+module _ {K : Type 0} where
+  -- the answer to copying what was read into so many bytes
+  abbrev pub copiedOf : Result (Option (Entry K)) LineRefusal → ℕ → Result Bool Layer
+  copiedOf (Ok None) n = Ok false
+  copiedOf (Ok (Some e)) n = copiedBy (lineWritten e n)
+  copiedOf (Err f) n = Err (Line f)
+
+  -- the same, for the first line of a sheet
+  abbrev pub copied : (List ℕ → Option K) → List ℕ → ℕ → Result Bool Layer
+  copied parsed sheet n = copiedOf (nextIn parsed sheet) n
+
+-- the space after it: the bytes of the line as they stood, or what it held
+abbrev pub spaceCopied : Result Bool Layer → List ℕ → List ℕ → List ℕ
+spaceCopied (Ok true) sheet space = take 16 sheet ++ drop 16 space
+spaceCopied (Ok false) sheet space = space
+spaceCopied (Err f) sheet space = space

@@ -1,3 +1,4 @@
 pub mod Every
+pub mod Has
 pub mod Steps
 pub mod Takes

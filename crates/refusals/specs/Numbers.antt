@@ -4,6 +4,8 @@ use Rattle.refusals.specs.declared.LineRefusal.{LineRefusal}
 use Rattle.refusals.specs.declared.LineRefusal.the-variants.{Shape, CueField, Letter, ItemField}
 use Rattle.refusals.specs.declared.Refusal.{Refusal}
 use Rattle.refusals.specs.declared.Refusal.the-variants.{NoSuchCue, CueEnded, BookFull, SpaceShort}
+use Rattle.refusals.specs.declared.Layer.{Layer}
+use Rattle.refusals.specs.declared.Layer.the-variants.{Line, Book}
 
 abbrev pub lineNumberOf : LineRefusal → ℕ
 lineNumberOf Shape = 1
@@ -16,3 +18,7 @@ numberOf NoSuchCue = 11
 numberOf CueEnded = 12
 numberOf BookFull = 13
 numberOf SpaceShort = 26
+
+abbrev pub layerNumberOf : Layer → ℕ
+layerNumberOf (Line f) = lineNumberOf f
+layerNumberOf (Book f) = numberOf f

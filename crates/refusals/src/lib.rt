@@ -1,6 +1,7 @@
 // Why a call is refused, and the number that each refusal is known by.
 ghost use mathlib.Core.Path.{_≡_};
-ghost use Rattle.refusals.specs.Numbers.{numberOf, lineNumberOf};
+ghost use Rattle.refusals.specs.declared.Layer.the-variants.{Line, Book};
+ghost use Rattle.refusals.specs.Numbers.{numberOf, lineNumberOf, layerNumberOf};
 
 // Why a line of a sheet is not read.
 #[derive(Clone, Copy, PartialEq, Eq, Debug)]
@@ -51,5 +52,39 @@ impl Refusal {
             Refusal::BookFull => 13,
             Refusal::SpaceShort => 26,
         }
+    }
+}
+
+// Which layer refused a line, with its refusal whole: the line format, or the call that takes the line's entry.
+#[derive(Clone, Copy, PartialEq, Eq, Debug)]
+pub enum Layer {
+    Line(LineRefusal),
+    Book(Refusal),
+}
+
+impl Layer {
+    pub fn number(self) -> u32
+        ensures { λ r. ⌜ r ≡ layerNumberOf self ⌝ }
+    {
+        match self {
+            Layer::Line(refusal) => refusal.number(),
+            Layer::Book(refusal) => refusal.number(),
+        }
+    }
+}
+
+pub impl From<LineRefusal> for Layer as LineLayer {
+    ghost converts = { λ f r. r ≡ Line f };
+
+    fn from(refusal: LineRefusal) -> Layer {
+        Layer::Line(refusal)
+    }
+}
+
+pub impl From<Refusal> for Layer as BookLayer {
+    ghost converts = { λ f r. r ≡ Book f };
+
+    fn from(refusal: Refusal) -> Layer {
+        Layer::Book(refusal)
     }
 }

@@ -4,11 +4,12 @@ use Prim.Native.Nat.{ℕ, _+_, _-_, _%_}
 use native.Mathlib.Omega.{arith}
 use Rattle.std.specs.declared.option.Option.the-variants.{Some}
 use Rattle.columns.proofs.Blanks.{length-justified}
+use Rattle.columns.proofs.Unbroken.{justified-unbroken, letters-unbroken}
 use Rattle.items.specs.declared.Mark.{Mark}
 use Rattle.items.specs.Fields.{Reads}
 use Rattle.items.specs.Words.{folded, word}
 use Rattle.items.specs.Kinds.{words, letters, markAlike, markText, markIn}
-use Rattle.items.proofs.Fields.{equal-self, equal-sym, equal-trans, eq-equal, justified-unbroken, letters-unbroken}
+use Rattle.items.proofs.Fields.{equal-self, equal-sym, equal-trans, eq-equal}
 use Rattle.items.proofs.Words.{word-letters, word-length, word-some, wordFrom-word, after-word}
 use Rattle.items.proofs.Marks.{Word, mark-in}
 use Rattle.items.proofs.MarkItem.the-impl.Needs as need
