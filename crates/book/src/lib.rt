@@ -6,6 +6,7 @@ ghost use lib.ListN.{length, set};
 ghost use denote.Ref.{name};
 ghost use Rattle.book.specs.Entering.{room, accepted, entered, grown, Lays};
 
+mod questions;
 mod sheets;
 
 use history::Entry;

@@ -13,7 +13,7 @@ const PLACES: usize = 2048;
 // How much of the input is read: a line more than the book holds.
 const SHEET: u64 = 32_784;
 
-// Reads a sheet of axes into a book, and prints the first fault or how many entries were read.
+// Reads a sheet of axes into a book, and prints the first fault or the book's class.
 pub fn run(rt: &LibcRuntime) -> io::Result<()> {
     let mut sheet = Vec::new(rt.alloc());
     rt.stdin().take(SHEET).read_to_end(&mut sheet)?;
@@ -24,7 +24,12 @@ pub fn run(rt: &LibcRuntime) -> io::Result<()> {
     let mut memory = [free; PLACES];
     let mut book = Book::new(&mut memory);
     match book.read_in(sheet.as_slice()) {
-        Ok(lines) => println!(rt, "entries{lines:>5}"),
+        Ok(_) => {
+            let class = book.class();
+            let number = class.number();
+            let place = class.place();
+            println!(rt, "class{number:>5}{place:>5}")
+        }
         Err(fault) => {
             let number = fault.layer.number();
             let line = fault.line;

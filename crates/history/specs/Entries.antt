@@ -39,6 +39,9 @@ module _ {K : Type 0} where
   abbrev pub committed : List (Entry K) → ℕ → Bool
   committed es n = acted isCommit es n
 
+  abbrev pub aborted : List (Entry K) → ℕ → Bool
+  aborted es n = acted isAbort es n
+
   abbrev pub ended : List (Entry K) → ℕ → Bool
   ended es n = acted ends es n
 

@@ -1,21 +1,17 @@
 -- A number that is not among others. Assumes nothing.
 use mathlib.Core.Bool.{Bool, true, false, _||_}
 use mathlib.Core.List.{List, [], _∷_, _++_}
-use mathlib.Core.Path.{_≡_, refl, ap, subst, _∙_}
+use mathlib.Core.Path.{_≡_, refl, subst}
 use Prim.Native.Nat.{ℕ, zero, suc}
 use lib.Dec.{eqb}
 use lib.ListN.{replicate}
 use Rattle.std.proofs.shelf.Tests.{both-ways, ne-eqb, or-from}
 use Rattle.lists.specs.Lists.{every, has}
 use Rattle.lists.proofs.Every.{every-rest}
+use Rattle.lists.proofs.Some.{some-append}
 
 pub has-append : (a : ℕ) (xs ys : List ℕ) → has a (xs ++ ys) ≡ (has a xs || has a ys)
-has-append a [] ys = refl
-has-append a (x ∷ xs) ys = ap (λ t. eqb x a || t) (has-append a xs ys) ∙ or-assoc (eqb x a) (has a xs) (has a ys)
-  where
-    or-assoc : (x y z : Bool) → (x || (y || z)) ≡ ((x || y) || z)
-    or-assoc true y z = refl
-    or-assoc false y z = refl
+has-append a xs ys = some-append (λ n. eqb n a) xs ys
 
 pub has-replicate : (a b n : ℕ) → eqb b a ≡ false → has a (replicate n b) ≡ false
 has-replicate a b zero h = refl

@@ -1,4 +1,11 @@
+pub mod Drops
 pub mod Every
+pub mod FirstFrom
+pub mod Firsts
+pub mod FrontSteps
 pub mod Has
+pub mod Last
+pub mod Passes
+pub mod Some
 pub mod Steps
 pub mod Takes

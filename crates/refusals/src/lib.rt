@@ -38,6 +38,8 @@ pub enum Refusal {
     CueEnded,
     // The book has no free place.
     BookFull,
+    // A cue number is outside 1 to 64, or the two are equal.
+    CuePair,
     // The space for a written line is shorter than 16 bytes.
     SpaceShort,
 }
@@ -50,6 +52,7 @@ impl Refusal {
             Refusal::NoSuchCue => 11,
             Refusal::CueEnded => 12,
             Refusal::BookFull => 13,
+            Refusal::CuePair => 24,
             Refusal::SpaceShort => 26,
         }
     }

@@ -1,0 +1,3 @@
+pub mod BreakLaws
+pub mod ClassLaws
+pub mod Tables
