@@ -1,14 +1,13 @@
 -- Leading blanks, and texts in columns. Assumes nothing.
 use mathlib.Core.Bool.{Bool, true, false, cond}
-use mathlib.Core.List.{List, [], _∷_, _++_, map, append-nil, append-assoc}
+use mathlib.Core.List.{List, [], _∷_, _++_, append-nil, append-assoc}
 use mathlib.Core.Logic.{inl, inr}
 use mathlib.Core.Path.{_≡_, refl, sym, ap, subst, _∙_}
 use Prim.Native.Nat.{ℕ, zero, suc, _+_, _-_, _≤_, _<_}
 use native.Mathlib.Omega.{arith}
 use lib.Dec.{eqb}
 use lib.ListN.{length, getD, drop, replicate}
-use lib.LanesLaws.{map-replicate}
-use Rattle.std.proofs.shelf.Lists.{at-drop-more, at-drop-all, drop-append-le, drop-all, drop-at, drop-replicate, drop-map, length-append, length-drop, length-map, length-replicate, map-append}
+use Rattle.std.proofs.shelf.Lists.{at-drop-more, at-drop-all, drop-append-le, drop-all, drop-at, drop-replicate, length-append, length-drop, length-replicate}
 use Rattle.std.proofs.shelf.Tests.{both-ways, eqb-true, eq-eqb, ne-eqb, cases-bool, cond-true, cond-false}
 use Rattle.lists.specs.Lists.{every}
 use Rattle.lists.proofs.Every.{every-rest}
@@ -67,13 +66,6 @@ justified-push w bs b =
     ap (λ (n : ℕ). drop n (replicate (suc w) 32 ++ (bs ++ b ∷ []))) more
     ∙ ap (drop (length bs)) (sym (append-assoc (replicate w 32) bs (b ∷ [])))
     ∙ drop-append-le (length bs) (replicate w 32 ++ bs) (b ∷ []) fits
-
--- what changes no blank changes the text alone
-pub map-justified : (f : ℕ → ℕ) (w : ℕ) (bs : List ℕ) → f 32 ≡ 32 → map f (justified w bs) ≡ justified w (map f bs)
-map-justified f w bs e =
-    sym (drop-map f (length bs) (replicate w 32 ++ bs))
-    ∙ ap (drop (length bs)) (map-append f (replicate w 32) bs ∙ ap (λ (xs : List ℕ). xs ++ map f bs) (map-replicate f w 32 ∙ ap (replicate w) e))
-    ∙ ap (λ (n : ℕ). drop n (replicate w 32 ++ map f bs)) (sym (length-map bs f))
 
 -- a text that fits, after blanks
 pub justified-fits : (w : ℕ) (bs : List ℕ) → length bs ≤ w → justified w bs ≡ replicate (w - length bs) 32 ++ bs

@@ -1,13 +1,15 @@
 -- The same bytes. Assumes nothing.
-use mathlib.Core.Bool.{Bool, true, false, _&&_}
-use mathlib.Core.List.{List, [], _∷_, map}
+use mathlib.Core.Bool.{true, false, _&&_}
+use mathlib.Core.List.{List, [], _∷_, _++_}
+use mathlib.Core.Logic.{inl, inr}
 use mathlib.Core.Path.{_≡_, refl, sym, ap, _∙_}
-use Prim.Native.Nat.{ℕ, _+_, _≤_, _<_}
+use Prim.Native.Nat.{ℕ}
 use lib.Dec.{eqb}
-use lib.ListN.{length, drop, getD}
+use lib.ListN.{length}
 use Rattle.std.specs.Orderings.{Decides}
-use Rattle.std.proofs.shelf.Lists.{drop-more, drop-all}
-use Rattle.std.proofs.shelf.Tests.{eq-eqb, ne-eqb, and-left}
+use Rattle.std.proofs.shelf.Lists.{same-from-push}
+use Rattle.std.proofs.shelf.Tests.{cases-bool}
+use Rattle.std.proofs.shelf.Ways.{same-from-decides, decides-like, decides-and, decides-eqb}
 use Rattle.std.proofs.shelf.Equals.{compares-decides}
 use Rattle.items.specs.Fields.{equal}
 
@@ -31,23 +33,13 @@ equal-sym xs ys h = eq-equal ys xs (sym (equal-true xs ys h))
 pub equal-trans : (xs ys zs : List ℕ) → equal xs ys ≡ true → equal ys zs ≡ true → equal xs zs ≡ true
 equal-trans xs ys zs h k = eq-equal xs zs (equal-true xs ys h ∙ equal-true ys zs k)
 
--- one turn of a loop that compares byte by byte
+-- lists from their ends
 
-module _ (f : ℕ → ℕ) (xs ys : List ℕ) (i : ℕ) where
-  pub equal-more : i < length xs → i < length ys → equal (map f (drop i xs)) (map f (drop i ys)) ≡ (eqb (f (getD xs i 0)) (f (getD ys i 0)) && equal (map f (drop (i + 1) xs)) (map f (drop (i + 1) ys)))
-  equal-more h k =
-      ap (λ zs. equal (map f zs) (map f (drop i ys))) (drop-more xs i 0 h)
-      ∙ ap (λ zs. equal (map f (getD xs i 0 ∷ drop (i + 1) xs)) (map f zs)) (drop-more ys i 0 k)
+pub equal-push : (xs ys : List ℕ) (x y : ℕ) → equal (xs ++ x ∷ []) (ys ++ y ∷ []) ≡ (equal xs ys && eqb x y)
+equal-push xs ys x y =
+    same-from-decides {P = (xs ≡ ys) × (x ≡ y)} (equal (xs ++ x ∷ []) (ys ++ y ∷ [])) (equal xs ys && eqb x y)
+    (decides-like (equal (xs ++ x ∷ []) (ys ++ y ∷ [])) (same-from-push xs ys x y) (λ p i. p .0 i ++ p .1 i ∷ []) (equal-decides (xs ++ x ∷ []) (ys ++ y ∷ [])))
+    (decides-and (equal xs ys) (eqb x y) (equal-decides xs ys) (decides-eqb x y))
 
-  pub equal-agree : i < length xs → i < length ys → f (getD xs i 0) ≡ f (getD ys i 0) → equal (map f (drop (i + 1) xs)) (map f (drop (i + 1) ys)) ≡ equal (map f (drop i xs)) (map f (drop i ys))
-  equal-agree h k e =
-      sym (equal-more h k ∙ ap (λ t. t && equal (map f (drop (i + 1) xs)) (map f (drop (i + 1) ys))) (eq-eqb (f (getD xs i 0)) (f (getD ys i 0)) e))
-
-  pub equal-differ : i < length xs → i < length ys → (f (getD xs i 0) ≡ f (getD ys i 0) → ⊥) → equal (map f (drop i xs)) (map f (drop i ys)) ≡ false
-  equal-differ h k d =
-      equal-more h k ∙ and-left (eqb (f (getD xs i 0)) (f (getD ys i 0))) (equal (map f (drop (i + 1) xs)) (map f (drop (i + 1) ys))) (ne-eqb (f (getD xs i 0)) (f (getD ys i 0)) d)
-
-  pub equal-end : length xs ≤ i → length ys ≤ i → equal (map f (drop i xs)) (map f (drop i ys)) ≡ true
-  equal-end h k =
-      ap (λ zs. equal (map f zs) (map f (drop i ys))) (drop-all i xs h)
-      ∙ ap (λ zs. equal (map f []) (map f zs)) (drop-all i ys k)
+pub equal-lengths : (xs ys : List ℕ) → (length xs ≡ length ys → ⊥) → equal xs ys ≡ false
+equal-lengths xs ys d = elim (cases-bool (equal xs ys)) [ inl t ↦ absurd (d (ap length (equal-true xs ys t))) | inr f ↦ f ]

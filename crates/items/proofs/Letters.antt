@@ -4,7 +4,7 @@ use mathlib.Core.Path.{_≡_}
 use Prim.Native.Nat.{ℕ, _≤_}
 use native.Mathlib.Omega.{arith}
 use Rattle.std.proofs.shelf.Ways.{tells}
-use Rattle.items.specs.Words.{folded, letterValue, letterOf}
+use Rattle.items.specs.Words.{letterValue, letterOf}
 use Rattle.columns.specs.Symbols.{isLetter}
 
 -- a letter's value is 1 to 52
@@ -23,7 +23,3 @@ letter-of v l m = grind (arith, tells)
 
 pub value-of : (v : ℕ) → 1 ≤ v → v ≤ 52 → letterValue (letterOf v) ≡ v
 value-of v l m = grind (arith, tells)
-
--- a letter with its case ignored is a letter
-pub folded-letter : (b : ℕ) → isLetter b ≡ true → isLetter (folded b) ≡ true
-folded-letter b h = grind (arith, tells)

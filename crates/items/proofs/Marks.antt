@@ -1,20 +1,17 @@
 -- Marks and their texts. Assumes nothing.
 use mathlib.Core.Bool.{Bool, true, cond, _&&_}
-use mathlib.Core.List.{List, map}
+use mathlib.Core.List.{List}
 use mathlib.Core.Path.{_≡_, ap, _∙_}
-use Prim.Native.Nat.{ℕ, _+_, _-_, _%_, _≤_}
+use Prim.Native.Nat.{ℕ, _-_, _≤_}
 use lib.Dec.{leb}
 use lib.ListN.{length}
 use Rattle.std.specs.declared.option.Option.the-variants.{Some, None}
 use Rattle.std.proofs.shelf.Tests.{and-parts, and-from, leb-true, le-leb}
 use Rattle.columns.specs.Columns.{afterBlanks}
 use Rattle.lists.specs.Lists.{every}
-use Rattle.items.specs.declared.Mark.{Mark}
-use Rattle.items.specs.Fields.{equal}
-use Rattle.items.specs.Words.{folded, wordFrom}
+use Rattle.items.specs.Words.{wordFrom}
 use Rattle.columns.specs.Symbols.{isLetter}
-use Rattle.items.specs.Kinds.{words, letters, isWord, markAlike, markText, markIn}
-use Rattle.items.proofs.Words.{word-letters, word-length, justified-same}
+use Rattle.items.specs.Kinds.{isWord, markIn}
 
 -- 1 to 8 letters
 pub record Word (w : List ℕ) : Type 0 where
@@ -39,11 +36,3 @@ mark-in field w n after is of =
     ap (λ (bs : List ℕ). cond (isWord bs) (Some (record { number = wordFrom 0 bs - 1 })) None) after
     ∙ ap (λ (t : Bool). cond t (Some (record { number = wordFrom 0 w - 1 })) None) (word-from w is)
     ∙ ap (λ (m : ℕ). Some (record { number = m - 1 })) of
-
--- marks are the same exactly when their texts are, with case ignored
-pub texts-alike : (a b : Mark) (xs ys : List ℕ) → xs ≡ markText a → ys ≡ markText b → equal (map folded xs) (map folded ys) ≡ markAlike a b
-texts-alike a b xs ys e f =
-    let m = a .number % words + 1 in
-    let n = b .number % words + 1 in
-    (λ i. equal (map folded (e i)) (map folded (f i)))
-    ∙ justified-same 8 (letters a) (letters b) (word-letters 8 m) (word-letters 8 n) (word-length 8 m) (word-length 8 n)

@@ -1,25 +1,26 @@
 -- Words and their numbers. Assumes nothing.
-use mathlib.Core.Bool.{Bool, true, false, cond, _&&_}
+use mathlib.Core.Bool.{Bool, true, false, cond, _&&_, and-true}
 use mathlib.Core.List.{List, [], _∷_, _++_, map, append-assoc, append-nil}
+use mathlib.Core.Logic.{_⊎_, inl, inr}
 use mathlib.Core.Path.{_≡_, refl, sym, ap, subst, _∙_}
 use Prim.Native.Nat.{ℕ, zero, suc, _+_, _-_, _*_, _/_, _%_, _<_, _≤_}
 use native.Mathlib.Numerals.{add-one}
 use native.Mathlib.Omega.{arith}
+use lib.Dec.{eqb}
 use lib.ListN.{length, getD, drop, replicate}
 use Rattle.std.specs.declared.option.Option.{Option}
 use Rattle.std.specs.declared.option.Option.the-variants.{Some, None}
-use Rattle.std.proofs.shelf.Lists.{at-drop-more, at-drop-all, length-push, length-map, replicate-more}
-use Rattle.std.proofs.shelf.Tests.{and-from}
-use Rattle.std.proofs.shelf.Ways.{same-from-decides, decides-like}
+use Rattle.std.proofs.shelf.Lists.{at-drop-more, at-drop-all, length-push, length-map, map-push, replicate-more}
+use Rattle.std.proofs.shelf.Tests.{and-from, and-right, eq-eqb, ne-eqb}
 use Rattle.columns.specs.Columns.{afterBlanks, justified}
 use Rattle.lists.specs.Lists.{every}
-use Rattle.lists.proofs.Every.{every-rest, every-append, every-map}
-use Rattle.columns.proofs.Blanks.{no-blanks, afterBlanks-justified, justified-none, justified-push, map-justified}
+use Rattle.lists.proofs.Every.{every-rest, every-append}
+use Rattle.columns.proofs.Blanks.{no-blanks, afterBlanks-justified, justified-none, justified-push}
 use Rattle.items.specs.Fields.{equal}
 use Rattle.items.specs.Words.{folded, letterValue, letterOf, wordFrom, word}
 use Rattle.columns.specs.Symbols.{isLetter}
-use Rattle.items.proofs.Letters.{value-low, value-high, of-value, letter-of, value-of, folded-letter}
-use Rattle.items.proofs.Fields.{equal-decides}
+use Rattle.items.proofs.Letters.{value-low, value-high, of-value, letter-of, value-of}
+use Rattle.items.proofs.Fields.{equal-push, equal-lengths}
 
 -- how many words have 1 to k letters
 abbrev pub most : ℕ → ℕ
@@ -163,19 +164,57 @@ word-letter at n some pos =
 pub after-word : (w : ℕ) (bs : List ℕ) → every isLetter bs ≡ true → length bs ≤ w → afterBlanks (justified w bs) ≡ bs
 after-word w bs h l = afterBlanks-justified w bs l (no-blanks isLetter bs refl h)
 
-after-folded : (w : ℕ) (bs : List ℕ) → every isLetter bs ≡ true → length bs ≤ w → afterBlanks (map folded (justified w bs)) ≡ map folded bs
-after-folded w bs h l =
-    ap afterBlanks (map-justified folded w bs refl)
-    ∙ after-word w (map folded bs) (every-map folded isLetter isLetter folded-letter bs h) (omega (arith, length-map bs folded))
+-- Words compared from their last letters
 
--- words in columns are the same, with case ignored, exactly when the words are
-pub justified-same : (w : ℕ) (xs ys : List ℕ) → every isLetter xs ≡ true → every isLetter ys ≡ true → length xs ≤ w → length ys ≤ w → equal (map folded (justified w xs)) (map folded (justified w ys)) ≡ equal (map folded xs) (map folded ys)
-justified-same w xs ys h k l m =
-    let A = map folded (justified w xs) in
-    let B = map folded (justified w ys) in
-    same-from-decides {P = map folded xs ≡ map folded ys} (equal A B) (equal (map folded xs) (map folded ys))
-    (decides-like (equal A B)
-    (λ e. sym (after-folded w xs h l) ∙ ap afterBlanks e ∙ after-folded w ys k m)
-    (λ e. map-justified folded w xs refl ∙ ap (justified w) e ∙ sym (map-justified folded w ys refl))
-    (equal-decides A B))
-    (equal-decides (map folded xs) (map folded ys))
+-- a word that k letters are enough for
+word-more : (k n : ℕ) → n ≤ most k → word (suc k) n ≡ word k n
+word-more zero zero h = refl
+word-more zero (suc n) h = absurd (omega arith)
+word-more (suc k) zero h = refl
+word-more (suc k) (suc n) h = ap (λ (xs : List ℕ). xs ++ letterOf (n % 52 + 1) ∷ []) (word-more k (n / 52) (omega arith))
+
+-- the last letter, and the word before it
+word-last : (k n : ℕ) → 0 < n → n ≤ most (suc k) → word (suc k) n ≡ word (suc k) ((n - 1) / 52) ++ letterOf ((n - 1) % 52 + 1) ∷ []
+word-last k n some h =
+    let next : n ≡ suc (n - 1) = omega arith in
+    ap (word (suc k)) next ∙ ap (λ (xs : List ℕ). xs ++ letterOf ((n - 1) % 52 + 1) ∷ []) (sym (word-more k ((n - 1) / 52) (omega arith)))
+
+-- two words of at most 8 letters are the same, with case ignored
+abbrev pub sameWord : ℕ → ℕ → Bool
+sameWord m n = equal (map folded (word 8 m)) (map folded (word 8 n))
+
+-- the last letters, and the words before them
+module _ (m n : ℕ) (some : 0 < m) (more : 0 < n) (h : m ≤ most 8) (k : n ≤ most 8) where
+  abbrev a : ℕ
+  a = folded (letterOf ((m - 1) % 52 + 1))
+
+  abbrev b : ℕ
+  b = folded (letterOf ((n - 1) % 52 + 1))
+
+  abbrev before : Bool
+  before = sameWord ((m - 1) / 52) ((n - 1) / 52)
+
+  same-last : sameWord m n ≡ (before && eqb a b)
+  same-last =
+      let xs = word 8 ((m - 1) / 52) in
+      let ys = word 8 ((n - 1) / 52) in
+      (λ i. equal (map folded (word-last 7 m some h i)) (map folded (word-last 7 n more k i)))
+      ∙ (λ i. equal (map-push folded xs (letterOf ((m - 1) % 52 + 1)) i) (map-push folded ys (letterOf ((n - 1) % 52 + 1)) i))
+      ∙ equal-push (map folded xs) (map folded ys) a b
+
+  pub last-agree : a ≡ b → before ≡ sameWord m n
+  last-agree e = sym (same-last ∙ ap (λ (t : Bool). before && t) (eq-eqb a b e) ∙ and-true before)
+
+  pub last-differ : (a ≡ b → ⊥) → sameWord m n ≡ false
+  last-differ d = same-last ∙ and-right before (eqb a b) (ne-eqb a b d)
+
+-- where one word has no letter
+pub none-same : (m n : ℕ) → (m ≡ 0) ⊎ (n ≡ 0) → eqb m n ≡ sameWord m n
+none-same zero zero e = refl
+none-same zero (suc n) e =
+    ne-eqb 0 (suc n) (λ z. omega arith)
+    ∙ sym (equal-lengths [] (map folded (word 8 (suc n))) (λ l. omega (arith, length-map (word 8 (suc n)) folded, word-some 8 (suc n) (omega arith) (omega arith))))
+none-same (suc m) zero e =
+    ne-eqb (suc m) 0 (λ z. omega arith)
+    ∙ sym (equal-lengths (map folded (word 8 (suc m))) [] (λ l. omega (arith, length-map (word 8 (suc m)) folded, word-some 8 (suc m) (omega arith) (omega arith))))
+none-same (suc m) (suc n) e = absurd (elim e [ inl x ↦ omega arith | inr y ↦ omega arith ])

@@ -137,17 +137,20 @@ pub impl Item for Mark as MarkItem {
 
     ghost parsed = { markIn };
 
+    // From the last letters to the first.
     fn same(self, other: Mark) -> bool {
-        let mut ours = [0u8; 8];
-        let mut theirs = [0u8; 8];
-        self.write(&mut ours);
-        other.write(&mut theirs);
-        for at in 0..8 {
-            if fold(ours[at]) != fold(theirs[at]) {
+        let mut mine = self.number % WORDS + 1;
+        let mut theirs = other.number % WORDS + 1;
+        while mine > 0 && theirs > 0 {
+            let last = letter(((mine - 1) % 52 + 1) as u8);
+            let their_last = letter(((theirs - 1) % 52 + 1) as u8);
+            if fold(last) != fold(their_last) {
                 return false;
             }
+            mine = (mine - 1) / 52;
+            theirs = (theirs - 1) / 52;
         }
-        true
+        mine == theirs
     }
 
     fn read(field: &[u8; 8]) -> Option<Mark> {

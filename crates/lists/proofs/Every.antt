@@ -1,7 +1,7 @@
 -- A test that each of a list passes. Assumes nothing.
 use mathlib.Core.Bool.{Bool, true}
-use mathlib.Core.List.{List, [], _∷_, _++_, map}
-use mathlib.Core.Path.{_≡_, refl}
+use mathlib.Core.List.{List, [], _∷_, _++_}
+use mathlib.Core.Path.{_≡_}
 use Rattle.std.proofs.shelf.Tests.{and-parts, and-from}
 use Rattle.lists.specs.Lists.{every}
 
@@ -13,9 +13,3 @@ every-append test [] ys h k = k
 every-append test (x ∷ xs) ys h k =
     let p = every-rest test x xs h in
     and-from (test x) (every test (xs ++ ys)) (p .0) (every-append test xs ys (p .1) k)
-
-pub every-map : {X Y : Type 0} (f : X → Y) (p : X → Bool) (q : Y → Bool) → ((x : X) → p x ≡ true → q (f x) ≡ true) → (xs : List X) → every p xs ≡ true → every q (map f xs) ≡ true
-every-map f p q h [] k = refl
-every-map f p q h (x ∷ xs) k =
-    let a = every-rest p x xs k in
-    and-from (q (f x)) (every q (map f xs)) (h x (a .0)) (every-map f p q h xs (a .1))

@@ -8,12 +8,13 @@ use native.Mathlib.Omega.{arith}
 use lib.Dec.{eqb, ltb}
 use lib.ListN.{length, getD, set, drop, take}
 use Rattle.std.proofs.shelf.Lists.{getD-set-same, getD-set-other, length-take, take-take}
-use Rattle.std.proofs.shelf.Tests.{and-parts, and-from, and-left, and-right, both-ways, cases-bool, cases-eq, cond-true, cond-false, eq-eqb, ne-eqb, eqb-true, leb-true}
+use Rattle.std.proofs.shelf.Tests.{and-parts, and-left, cases-bool, cases-eq, cond-true, cond-false, leb-true}
 use Rattle.lists.specs.Lists.{firstAt, some}
 use Rattle.lists.proofs.Firsts.{firstAt-before, some-take}
 use Rattle.history.specs.declared.Act.{Act}
 use Rattle.history.specs.declared.Entry.{Entry}
 use Rattle.history.specs.Entries.{isCue, isCommit, isAbort, by, acted}
+use Rattle.history.proofs.By.{by-yes, by-no-cue}
 use Rattle.recovery.specs.declared.endings.Endings.{Endings}
 use Rattle.recovery.specs.Endings.{below, Firsts, Tells}
 
@@ -44,13 +45,13 @@ module _ {K : Type 0} (test : Act K → Bool) (es : List (Entry K)) where
         let mine = cue-bounds (e .cue) cue in
         elim (cases-eq (e .cue) n) [
           | inl same ↦
-              let yes′ : by n test e ≡ true = and-from _ _ (eq-eqb (e .cue) n same) passes in
+              let yes′ : by n test e ≡ true = by-yes n test e same passes in
               let step : firstAt (by n test) (drop (i - 1) es) ≡ 0 = firstAt-before (by n test) es i e some within is ∙ cond-true (by n test e) 0 _ yes′ in
               let at : getD (set table (e .cue - 1) (i - 1)) (n - 1) 0 ≡ i - 1 =
               ap (λ (m : ℕ). getD (set table (e .cue - 1) (i - 1)) (m - 1) 0) (sym same) ∙ getD-set-same table (e .cue - 1) (i - 1) 0 (omega arith) in
               omega arith
           | inr other ↦
-              getD-set-other table (e .cue - 1) (n - 1) (i - 1) 0 (λ z. other (omega arith)) ∙ past n c (and-left _ _ (ne-eqb (e .cue) n other))
+              getD-set-other table (e .cue - 1) (n - 1) (i - 1) 0 (λ z. other (omega arith)) ∙ past n c (by-no-cue n test e other)
         ]
 
   -- what the table tells of a front of the entries

@@ -38,10 +38,16 @@ pub enum Refusal {
     CueEnded,
     // The book has no free place.
     BookFull,
+    // The list for the answer is shorter than the number of cues, or of winches, that it may have to hold.
+    ListShort,
+    // The strip of working memory is shorter than 64 bytes.
+    StripShort,
     // A cue number is outside 1 to 64, or the two are equal.
     CuePair,
     // The space for a written line is shorter than 16 bytes.
     SpaceShort,
+    // A row of a wait list has a number outside 1 to 64.
+    NoSuchWinch,
 }
 
 impl Refusal {
@@ -52,8 +58,11 @@ impl Refusal {
             Refusal::NoSuchCue => 11,
             Refusal::CueEnded => 12,
             Refusal::BookFull => 13,
+            Refusal::ListShort => 21,
+            Refusal::StripShort => 22,
             Refusal::CuePair => 24,
             Refusal::SpaceShort => 26,
+            Refusal::NoSuchWinch => 31,
         }
     }
 }

@@ -6,7 +6,8 @@ use native.Mathlib.Nat.{add-zero, zero-add}
 use native.Mathlib.Omega.{arith}
 use lib.ListN.{length, getD, drop, replicate}
 use Rattle.std.proofs.shelf.Lists.{length-set, getD-replicate, drop-all}
-use Rattle.std.proofs.shelf.Tests.{and-left, and-right, both-ways, ne-eqb}
+use Rattle.std.proofs.shelf.Tests.{both-ways}
+use Rattle.history.proofs.By.{by-no-cue, by-no-act}
 use Rattle.lists.specs.Lists.{firstAt}
 use Rattle.history.specs.Entries.{isCue, by}
 use Rattle.history.specs.Sought.{admits}
@@ -36,8 +37,8 @@ loop-i-again g c =
     let e = c .index-entries-i .result in
     let none : (n : ℕ) → isCue n ≡ true → by n (admits (c .args .sought)) e ≡ false =
     elim (c .else-is-cue .came) [
-      | else-is-cue·by·then-is-cue·else-admitted w ↦ λ n cue. and-right _ _ (sym (w .if-admitted .ensures tt))
-      | else-is-cue·by·else-is-cue w ↦ λ n cue. and-left _ _ (ne-eqb (e .cue) n (λ same. both-ways (isCue (e .cue)) (sym (w .if-is-cue .ensures tt)) (ap isCue same ∙ cue)))
+      | else-is-cue·by·then-is-cue·else-admitted w ↦ λ n cue. by-no-act n (admits (c .args .sought)) e (sym (w .if-admitted .ensures tt))
+      | else-is-cue·by·else-is-cue w ↦ λ n cue. by-no-cue n (admits (c .args .sought)) e (λ same. both-ways (isCue (e .cue)) (sym (w .if-is-cue .ensures tt)) (ap isCue same ∙ cue))
     ] in (
       c .loop-i .inv .0,
       from-skip (admits (c .args .sought)) (c .args .entries .now) (c .loop-i .i) (c .loop-i .table) (c .loop-i .inv .1) e (c .loop-i-test .taken) (c .loop-i .kept .i) (c .index-entries-i .is) none,
