@@ -1,39 +1,21 @@
-// What the cue checker does with a sheet on its standard input.
-use book::Book;
-use history::Act;
-use history::Entry;
-use items::Axis;
-use items::AxisItem;
+// What the programs do with their standard input.
+mod sheet;
+mod waiting;
+
+use graphs::Found;
+pub use sheet::run;
 use std::io;
-use std::io::Read;
+pub use waiting::run_waits;
 
-// How many entries the book holds.
-const PLACES: usize = 2048;
-
-// How much of the input is read: a line more than the book holds.
-const SHEET: u64 = 32_784;
-
-// Reads a sheet of axes into a book, and prints the first fault or the book's class.
-pub fn run(rt: &LibcRuntime) -> io::Result<()> {
-    let mut sheet = Vec::new(rt.alloc());
-    rt.stdin().take(SHEET).read_to_end(&mut sheet)?;
-    let free: Entry<Axis> = Entry {
-        cue: 0,
-        act: Act::Abort,
+// Prints an order or a cycle: the word, and each number right-justified in five columns.
+fn print_found(rt: &LibcRuntime, found: Found, cells: &[u32]) -> io::Result<()> {
+    let (word, count) = match found {
+        Found::Order(count) => ("order", count),
+        Found::Cycle(count) => ("cycle", count),
     };
-    let mut memory = [free; PLACES];
-    let mut book = Book::new(&mut memory);
-    match book.read_in(sheet.as_slice()) {
-        Ok(_) => {
-            let class = book.class();
-            let number = class.number();
-            let place = class.place();
-            println!(rt, "class{number:>5}{place:>5}")
-        }
-        Err(fault) => {
-            let number = fault.layer.number();
-            let line = fault.line;
-            println!(rt, "fault{number:>5}{line:>5}")
-        }
+    print!(rt, "{word}")?;
+    for cell in cells.iter().take(count) {
+        print!(rt, "{cell:>5}")?;
     }
+    println!(rt, "")
 }

@@ -1,38 +1,21 @@
 -- What the parts of a search come to. Assumes nothing.
-use mathlib.Core.Path.{_≡_, refl, sym, ap, _∙_}
-use mathlib.Core.List.{List, [], _∷_, _++_, append-nil}
-use mathlib.Core.Bool.{Bool, true, false, cond, _&&_}
-use Prim.Native.Nat.{ℕ, _+_, _-_, _<_, _≤_}
+use mathlib.Core.Path.{_≡_, sym, ap, _∙_}
+use mathlib.Core.List.{List, [], append-nil}
+use mathlib.Core.Bool.{Bool, true, false, cond}
+use Prim.Native.Nat.{ℕ, _≤_}
 use native.Mathlib.Omega.{arith}
 use lib.Dec.{ltb}
-use lib.ListN.{length, getD, set, take, drop, replicate}
+use lib.ListN.{length, take, drop}
 use Rattle.std.specs.declared.option.Option.the-variants.{Some, None}
-use Rattle.std.proofs.shelf.Lists.{drop-at, length-replicate}
 use Rattle.std.proofs.shelf.Tests.{and-parts, cond-false, le-ltb}
 use Rattle.refusals.specs.declared.Refusal.the-variants.{ListShort, StripShort}
 use Rattle.graphs.specs.Answer.{Ordered, Cycled, searchRefusal}
-use Rattle.graphs.specs.Orders.{among, firstWhere, orders, follows, IsCycle}
-use Rattle.graphs.specs.Rows.{free, mark, waits, wiped, Stuck, Marked, Placing, Walked}
-use Rattle.graphs.proofs.Among.{among-none}
+use Rattle.orders.specs.Orders.{among, firstWhere, orders}
+use Rattle.graphs.specs.Edges.{follows}
+use Rattle.graphs.specs.Rows.{free, mark, waits, Stuck, Marked, Placing, Walked}
+use Rattle.orders.proofs.Among.{among-none}
 use Rattle.graphs.proofs.First.{stuck-none}
 use Rattle.graphs.proofs.Walks.{ring-long, ring-marked, ring-cycle}
-
-front-off : (n : ℕ) (t : List ℕ) → drop n (replicate n 0 ++ t) ≡ t
-front-off n t = drop-at (replicate n 0) t n (length-replicate n 0)
-
-drop-wiped : (s : List ℕ) → drop 64 (wiped s) ≡ drop 64 s
-unfolding wiped
-drop-wiped s = front-off 64 (drop 64 s)
-
-pub wiped-rest : (s t : List ℕ) → t ≡ wiped s → drop 64 t ≡ drop 64 s
-wiped-rest s t e = ap (drop 64) e ∙ drop-wiped s
-
-pub wiped-same : (s t : List ℕ) → drop 64 t ≡ drop 64 s → wiped t ≡ wiped s
-unfolding wiped
-wiped-same s t e = ap (λ (r : List ℕ). replicate 64 0 ++ r) e
-
-pub wiped-still : (s t : List ℕ) → t ≡ wiped s → t ≡ wiped t
-wiped-still s t e = e ∙ sym (wiped-same s t (wiped-rest s t e))
 
 module _ (has : ℕ → Bool) (edge : ℕ → ℕ → Bool) (list list′ : List ℕ) (s : List ℕ) where
   pub ordered : (placed : ℕ) → Placing has edge s placed → ((m : ℕ) → 1 ≤ m → m ≤ 64 → waits has s m ≡ false) → ((row : List ℕ) → length row ≡ placed → Marked 0 row s → take placed list′ ≡ row) → drop placed list′ ≡ drop placed list → Ordered has edge list list′ placed

@@ -2,7 +2,7 @@
 use mathlib.Core.Path.{_≡_}
 use mathlib.Core.List.{List}
 use mathlib.Core.Bool.{Bool, cond}
-use Prim.Native.Nat.{ℕ, _<_, _≤_}
+use Prim.Native.Nat.{ℕ, _≤_}
 use lib.Dec.{ltb}
 use lib.ListN.{length, take, drop}
 use Rattle.std.specs.declared.option.Option.{Option}
@@ -13,7 +13,8 @@ use Rattle.graphs.specs.declared.Found.{Found}
 use Rattle.graphs.specs.declared.Found.the-variants.{Order, Cycle}
 use Rattle.refusals.specs.declared.Refusal.{Refusal}
 use Rattle.refusals.specs.declared.Refusal.the-variants.{ListShort, StripShort}
-use Rattle.graphs.specs.Orders.{among, firstWhere, orders, follows, IsCycle}
+use Rattle.orders.specs.Orders.{among, firstWhere, orders}
+use Rattle.graphs.specs.Edges.{follows, IsCycle}
 use Rattle.graphs.specs.Rows.{wiped}
 
 pub record Ordered (has : ℕ → Bool) (edge : ℕ → ℕ → Bool) (list list′ : List ℕ) (n : ℕ) : Type 0 where

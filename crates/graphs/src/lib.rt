@@ -1,3 +1,4 @@
+// The first order in dictionary order of a graph's numbers that follows every edge, or a cycle.
 ghost use mathlib.Core.Path.{_≡_};
 ghost use mathlib.Core.Bool.{Bool, true, false};
 ghost use mathlib.Core.List.{List};
@@ -5,10 +6,16 @@ ghost use Prim.Native.Nat.{ℕ, _+_, _-_, _<_, _≤_};
 ghost use lib.ListN.{length, take, drop};
 ghost use Rattle.std.specs.Options.{Cases as BySome};
 ghost use Rattle.graphs.specs.Answer.{Finds, searchRefusal, refusalIn, stripAfter, Lists};
-ghost use Rattle.graphs.specs.Least.{First-is-least, None-is-none};
-ghost use Rattle.graphs.specs.Orders.{among};
+ghost use Rattle.orders.specs.Orders.{among};
 ghost use Rattle.graphs.specs.Rows.{wiped, waits, mark, Ready, Stuck, Picked, Marked, Placing, Walked};
 use refusals::Refusal;
+
+mod waits;
+
+pub use waits::Wait;
+pub use waits::WaitGraph;
+pub use waits::WaitList;
+pub use waits::wait_order;
 
 // A graph over some of the numbers from 1 to 64.
 pub trait Graph {
@@ -207,12 +214,4 @@ pub fn search<G: Graph>(graph: &G, list: &mut [u32], strip: &mut [u8]) -> Result
     let marks = Marks { strip };
     let found = fill(graph, list, marks.strip);
     Ok(found)
-}
-
-// That the first order found is the least in dictionary order of all that follow every edge, and that none found is none.
-pub fn least_stands() -> u8
-    ensures first { λ _. ⌜ First-is-least ⌝ }
-    ensures none { λ _. ⌜ None-is-none ⌝ }
-{
-    0
 }
