@@ -9,3 +9,4 @@ pub mod Passes
 pub mod Some
 pub mod Steps
 pub mod Takes
+pub mod Together

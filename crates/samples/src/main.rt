@@ -2,6 +2,7 @@
 mod notation;
 
 use book::Book;
+use graphs::Found;
 use history::Act;
 use history::Entry;
 use items::Axis;
@@ -20,7 +21,7 @@ struct Sample<'a> {
 }
 
 // Books of axes.
-const AXES: [Sample<'static>; 21] = [
+const AXES: [Sample<'static>; 24] = [
     Sample {
         shows: "empty",
         book: "",
@@ -104,6 +105,18 @@ const AXES: [Sample<'static>; 21] = [
         book: "w1(1) w1(2) r2(4) w1(3) c1 w2(1) r2(2) w2(2) c2",
     },
     Sample {
+        shows: "three cues in a ring",
+        book: "r1(1) w2(1) r2(2) w3(2) r3(3) w1(3) c1 c2 c3",
+    },
+    Sample {
+        shows: "a ring with an aborted cue",
+        book: "r1(1) w2(1) r2(2) w3(2) r3(3) w1(3) c1 a2 c3",
+    },
+    Sample {
+        shows: "the smallest that can go first goes first",
+        book: "r3(1) w1(1) r4(2) w2(2) c1 c2 c3 c4",
+    },
+    Sample {
         shows: "a crash before the first commits",
         book: "r1(1) w1(1) r1(2) r2(1) w1(2) r2(2) c2 r1(3) w1(3)",
     },
@@ -137,6 +150,28 @@ fn print_why<K: Item>(rt: &LibcRuntime, book: &Book<'_, K>, i: u32, j: u32) -> i
     }
 }
 
+// The order of the committed cues, or a cycle.
+fn print_order<K: Item>(rt: &LibcRuntime, book: &Book<'_, K>) -> io::Result<()> {
+    let mut cues = [0u32; 64];
+    let mut strip = [0u8; 64];
+    match book.order(&mut cues, &mut strip) {
+        Ok(Found::Order(count)) => print_cues(rt, "order", &cues, count),
+        Ok(Found::Cycle(count)) => print_cues(rt, "cycle", &cues, count),
+        Err(refusal) => {
+            let number = refusal.number();
+            println!(rt, "  order is refused, {number}")
+        }
+    }
+}
+
+fn print_cues(rt: &LibcRuntime, word: &str, cues: &[u32], count: usize) -> io::Result<()> {
+    print!(rt, "  {word}")?;
+    for cue in cues.iter().take(count) {
+        print!(rt, " {cue}")?;
+    }
+    println!(rt, "")
+}
+
 fn print_sample<K: Item>(
     rt: &LibcRuntime,
     sample: Sample<'_>,
@@ -159,6 +194,7 @@ fn print_sample<K: Item>(
     let number = class.number();
     let place = class.place();
     println!(rt, "  class {number} {place}")?;
+    print_order(rt, &book)?;
     print_why(rt, &book, 1, 2)?;
     print_why(rt, &book, 2, 1)
 }

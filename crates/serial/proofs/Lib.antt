@@ -1,1 +1,8 @@
-mod FirstPair
+pub mod FirstPair
+pub mod Pairs
+pub mod Precedence
+pub mod Leasts
+pub mod Kept
+pub mod Lasting
+pub mod Drawing
+pub mod Answered

@@ -1,1 +1,4 @@
 pub mod Why
+pub mod Order
+pub mod OrderAnswer
+pub mod Drawn

@@ -1,11 +1,21 @@
 // Questions about the order that conflicts put cues in.
 ghost use mathlib.Core.Path.{_≡_};
+ghost use lib.ListN.{length};
+ghost use Rattle.graphs.specs.Answer.{refusalIn, stripAfter};
+ghost use Rattle.serial.specs.Order.{Cycle-lasts};
+ghost use Rattle.serial.specs.OrderAnswer.{orderRefusal, OrderLists};
 ghost use Rattle.serial.specs.Why.{twoCues, whyOf, whyAnswer, Tells};
+use arrows::ConflictGraphGraph;
+use arrows::conflict_graph;
+use graphs::Found;
+use graphs::search;
 use history::Entry;
 use history::conflicts;
 use history::is_cue;
 use items::Item;
 use refusals::Refusal;
+
+mod arrows;
 
 // The two places that put one cue before another.
 #[derive(Clone, Copy, PartialEq, Eq, Debug)]
@@ -51,4 +61,25 @@ pub fn why<K: Item>(entries: &[Entry<K>], i: u32, j: u32) -> Result<Option<Pair>
         return Err(Refusal::CuePair);
     }
     Ok(first_pair(entries, i, j))
+}
+
+// The first order of the committed cues that every conflict keeps, or else a cycle of them, at the front of `list`.
+pub fn order_of<K: Item>(
+    entries: &[Entry<K>],
+    list: &mut [u32],
+    strip: &mut [u8],
+) -> Result<Found, Refusal>
+    ensures refuses { λ r. ⌜ refusalIn r ≡ orderRefusal (now (entries .entry)) (length (now (list .entry))) (length (now (strip .entry))) ⌝ }
+    ensures strip { λ r. ⌜ now (strip .exit) ≡ stripAfter r (now (strip .entry)) ⌝ }
+    ensures lists { λ r. ⌜ OrderLists (K·Item .alike) (now (entries .entry)) (now (list .entry)) (now (list .exit)) r ⌝ }
+{
+    let graph = conflict_graph(entries);
+    search(&graph, list, strip)
+}
+
+// That a cycle lasts: once there is one, no order is found again.
+pub fn cycle_lasts<K>() -> u8
+    ensures { λ _. ⌜ Cycle-lasts K ⌝ }
+{
+    0
 }
