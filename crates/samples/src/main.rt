@@ -21,7 +21,7 @@ struct Sample<'a> {
 }
 
 // Books of axes.
-const AXES: [Sample<'static>; 24] = [
+const AXES: [Sample<'static>; 33] = [
     Sample {
         shows: "empty",
         book: "",
@@ -103,6 +103,43 @@ const AXES: [Sample<'static>; 24] = [
     Sample {
         shows: "the second waits for the first",
         book: "w1(1) w1(2) r2(4) w1(3) c1 w2(1) r2(2) w2(2) c2",
+    },
+    // Transfers and longer histories of lectures on precedence graphs, with their items numbered.
+    Sample {
+        shows: "transfers one after the other",
+        book: "r1(1) w1(1) r1(2) w1(2) c1 r2(1) w2(1) r2(2) w2(2) c2",
+    },
+    Sample {
+        shows: "transfers side by side, in one order",
+        book: "r1(1) w1(1) r2(1) w2(1) r1(2) w1(2) c1 r2(2) w2(2) c2",
+    },
+    Sample {
+        shows: "transfers that cross",
+        book: "r1(1) r2(1) w2(1) r2(2) w1(1) r1(2) w1(2) c1 w2(2) c2",
+    },
+    Sample {
+        shows: "each begins with what the other ends with",
+        book: "r1(1) w1(1) r2(2) w2(2) r1(2) w1(2) r2(1) w2(1) c1 c2",
+    },
+    Sample {
+        shows: "a lost update",
+        book: "r1(1) r2(1) w1(1) r1(2) w2(1) c2 w1(2) c1",
+    },
+    Sample {
+        shows: "three cues, two of them in a ring",
+        book: "r2(3) r2(2) w2(2) r3(2) r3(3) r1(1) w1(1) w3(2) w3(3) c3 r2(1) r1(2) w1(2) c1 w2(1) c2",
+    },
+    Sample {
+        shows: "three cues in an order",
+        book: "r3(2) r3(3) r1(1) w1(1) w3(2) w3(3) c3 r2(3) r1(2) w1(2) c1 r2(2) w2(2) r2(1) w2(1) c2",
+    },
+    Sample {
+        shows: "four cues in falling order",
+        book: "r4(4) w3(1) r2(1) r1(1) w4(4) w3(2) r1(2) w1(1) r3(4) w3(3) r2(3) w1(2) r2(4) w2(3) c1 c2 c3 c4",
+    },
+    Sample {
+        shows: "four cues, some in a ring",
+        book: "r1(1) r2(1) r2(3) w3(1) w3(2) r4(4) r1(2) w4(4) w1(1) r2(4) r3(4) w3(3) w2(3) w1(2) c1 c2 c3 c4",
     },
     Sample {
         shows: "three cues in a ring",
@@ -209,10 +246,10 @@ fn main(rt: LibcRuntime) -> io::Result<()> {
         act: Act::Abort,
     };
     for sample in &AXES {
-        print_sample(&rt, *sample, &mut [free; 16])?;
+        print_sample(&rt, *sample, &mut [free; 20])?;
     }
     for sample in &MARKS {
-        print_sample(&rt, *sample, &mut [none; 16])?;
+        print_sample(&rt, *sample, &mut [none; 20])?;
     }
     let mut memory = [free; 1];
     let book = Book::new(&mut memory);
