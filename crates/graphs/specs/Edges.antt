@@ -4,6 +4,7 @@ use mathlib.Core.List.{List, [], _∷_}
 use mathlib.Core.Bool.{Bool, true, false, not, _&&_, _||_}
 use Prim.Native.Nat.{ℕ, _+_, _-_, _<_, _≤_}
 use lib.ListN.{length, getD}
+use Rattle.std.specs.Orderings.{Decides}
 
 -- some number of us has an edge to x
 abbrev pub leads : (ℕ → ℕ → Bool) → List ℕ → ℕ → Bool
@@ -22,3 +23,7 @@ pub record IsCycle (has : ℕ → Bool) (edge : ℕ → ℕ → Bool) (cells : L
   pub distinct : (i j : ℕ) → i < j → j < length cells → getD cells i 0 ≡ getD cells j 0 → ⊥
   pub steps : (i : ℕ) → i + 1 < length cells → edge (getD cells i 0) (getD cells (i + 1) 0) ≡ true
   pub closes : edge (getD cells (length cells - 1) 0) (getD cells 0 0) ≡ true
+
+-- that is: an edge between numbers of the order runs forward
+abbrev pub Follows-forward : Type 0
+Follows-forward = (edge : ℕ → ℕ → Bool) (o : List ℕ) → Decides (follows edge o) ((i j : ℕ) → i ≤ j → j < length o → edge (getD o j 0) (getD o i 0) ≡ false)

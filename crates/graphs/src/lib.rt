@@ -5,6 +5,7 @@ ghost use mathlib.Core.List.{List};
 ghost use Prim.Native.Nat.{ℕ, _+_, _-_, _<_, _≤_};
 ghost use lib.ListN.{length, take, drop};
 ghost use Rattle.std.specs.Options.{Cases as BySome};
+ghost use Rattle.graphs.specs.Edges.{Follows-forward};
 ghost use Rattle.graphs.specs.Answer.{Finds, searchRefusal, refusalIn, stripAfter, Lists};
 ghost use Rattle.orders.specs.Orders.{among};
 ghost use Rattle.graphs.specs.Rows.{wiped, waits, mark, Ready, Stuck, Picked, Marked, Placing, Walked};
@@ -214,4 +215,11 @@ pub fn search<G: Graph>(graph: &G, list: &mut [u32], strip: &mut [u8]) -> Result
     let marks = Marks { strip };
     let found = fill(graph, list, marks.strip);
     Ok(found)
+}
+
+// That an order follows every edge exactly when each edge between its numbers runs forward.
+pub fn follows_stands() -> u8
+    ensures { λ _. ⌜ Follows-forward ⌝ }
+{
+    0
 }
