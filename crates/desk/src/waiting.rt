@@ -2,6 +2,8 @@
 use crate::print_found;
 use graphs::Wait;
 use graphs::wait_order;
+use refusals::Refusal;
+use refusals::RefusalPartialEq;
 use std::error::AnyError;
 
 // The row that a line says: two numbers with blanks between.
@@ -15,8 +17,12 @@ fn row_of(line: &str) -> Option<Wait> {
     Some(Wait { winch, awaited })
 }
 
-fn is_winch(n: u32) -> bool {
-    1 <= n && n <= 64
+// Whether the wait list refuses a row for its numbers, which it looks at before the list and the strip.
+fn is_out_of_range(row: Wait) -> bool {
+    match wait_order(&[row], &mut [], &mut []) {
+        Err(refusal) => refusal == Refusal::NoSuchWinch,
+        Ok(_) => false,
+    }
 }
 
 // Reads rows of waits, and prints an order in which the winches can move, or a cycle of winches that wait for one another; or
@@ -31,7 +37,7 @@ pub fn run_waits(rt: &LibcRuntime) -> Result<(), AnyError> {
             println!(rt, "line {number}: not two numbers")?;
             return Ok(());
         };
-        if !is_winch(row.winch) || !is_winch(row.awaited) {
+        if is_out_of_range(row) {
             println!(rt, "line {number}: a winch is numbered 1 to 64")?;
             return Ok(());
         }
