@@ -125,9 +125,15 @@ NAMES = {name: turned(name) for name in PLAIN} | LEMMAS
 WORD = re.compile(r"[\w'\-≡≢≤≥<>∷]+")
 
 
-def respell(text, kind):
+# The logic has a lemma of this name; only one crate has one of its own.
+OWN_IN = {"and-true": "graphs"}
+
+
+def respell(text, kind, crate=""):
     def one(m):
         word = m[0]
+        if OWN_IN.get(word, crate) != crate:
+            return word
         if kind != "antt" and word in ONLY_ANTT:
             return word
         if kind == "md" and word in PAGES:
@@ -153,7 +159,7 @@ def main():
     for path in files(top):
         with open(path, encoding="utf-8") as f:
             before = f.read()
-        after = respell(before, path.rsplit(".", 1)[1])
+        after = respell(before, path.rsplit(".", 1)[1], os.path.relpath(path, top).split(os.sep)[1] if "crates" in path else "")
         if after != before:
             changed += 1
             with open(path, "w", encoding="utf-8") as f:

@@ -1,6 +1,6 @@
 -- Words and their numbers. Assumes nothing.
 use Rattle.std.specs.Prelude.{◌≡◌, ℕ, zero, suc, ◌+◌, ◌-◌, ◌*◌, ◌/◌, ◌%◌, ◌<◌, ◌≤◌, Bool, true, false, cond, ◌&&◌, ◌⊎◌, List, [], ◌∷◌, ◌++◌, map, length, drop, replicate, Some, None, Option, ◌==◌, ◌≢◌, slice_index, refl}
-use Rattle.std.proofs.Math.Bool.{and_true}
+use Rattle.std.proofs.Math.Bool.{and-true}
 use Rattle.std.proofs.Common.{append_assoc, append-nil, inl, inr, sym, ap, subst, ◌∙◌, add-one, arith}
 use Rattle.std.proofs.lemmas.List.{at_drop_more, at_drop_all, length_push, length-map, map_push, replicate_more}
 use Rattle.std.proofs.lemmas.Bool.{and_from, and_right, eq-eqb, ne_eqb}
@@ -195,7 +195,7 @@ module _ (m n : ℕ) (some : 0 < m) (more : 0 < n) (h : m ≤ most 8) (k : n ≤
       ∙ equal_push (map folded xs) (map folded ys) a b
 
   pub last_agree : a ≡ b → before ≡ same_word m n
-  last_agree e = sym (same_last ∙ ap (λ (t : Bool). before && t) (eq-eqb a b e) ∙ and_true before)
+  last_agree e = sym (same_last ∙ ap (λ (t : Bool). before && t) (eq-eqb a b e) ∙ and-true before)
 
   pub last_differ : (a ≢ b) → same_word m n ≡ false
   last_differ d = same_last ∙ and_right before (a == b) (ne_eqb a b d)

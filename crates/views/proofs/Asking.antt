@@ -1,6 +1,6 @@
 -- What a read and a write ask, from what the helpers note. Assumes nothing.
 use Rattle.std.proofs.Common.{◌≡◌, ℕ, Bool, true, false, not, ◌&&◌, ◌||◌, eqb, List, length, Some, None, Option, sym, refl, ap, ◌∙◌, subst}
-use mathlib.Core.Bool.{and_true, or-false}
+use mathlib.Core.Bool.{and-true, or-false}
 use Rattle.std.proofs.lemmas.Bool.{and_left, and_right, eq-eqb, ne_eqb, not_from_false, not_from_true, or_from}
 use Rattle.history.specs.declared.Act.{Act}
 use Rattle.history.specs.declared.Act.TheVariants.{Read, Write, Commit, Abort}
@@ -54,7 +54,7 @@ module _ {K : Type 0} (alike : K → K → Bool) (c : ℕ → Bool) (k : K) wher
           other = not_from_false (eqb s i) (ne_eqb s i apart)
 
           with_other : (b : Bool) → b ≡ (b && not (eqb s i))
-          with_other b = sym (and_true b) ∙ ap (λ (x : Bool). b && x) (sym other)
+          with_other b = sym (and-true b) ∙ ap (λ (x : Bool). b && x) (sym other)
 
           hides_same : ((marked earlier i || marked later s || false) || false) ≡ read_hides alike c k i before after (Some s)
           hides_same =
@@ -109,7 +109,7 @@ module _ {K : Type 0} (alike : K → K → Bool) (c : ℕ → Bool) (k : K) wher
             subst (λ (u : Constraints). AskedWrite alike c t u i k after) (sym is)
             (subst (λ (o : Option ℕ). WriteBy o (with_ahead t i l)) (sym e ∙ is_last)
             (notes_same c false false (λ a b. eqb a i && eqb b l) (write_ahead alike c i (Some l)) none_apart none_apart t (with_ahead t i l) refl
-            (λ a b. ap (λ (x : Bool). eqb a i && x) (sym (and_true (eqb b l)) ∙ ap (λ (x : Bool). eqb b l && x) (sym other))) (λ j r n. refl) once))
+            (λ a b. ap (λ (x : Bool). eqb a i && x) (sym (and-true (eqb b l)) ∙ ap (λ (x : Bool). eqb b l && x) (sym other))) (λ j r n. refl) once))
 
 module _ {K : Type 0} where
   no_reads : (test : K → Bool) (a : Act K) → ((k : K) → a ≡ Read k → ⊥) → reads test a ≡ false

@@ -1,6 +1,6 @@
 -- What notes leave in the tables, one after another. Assumes nothing.
 use Rattle.std.proofs.Common.{◌≡◌, ℕ, ◌+◌, ◌-◌, ◌*◌, ◌%◌, ◌<◌, ◌≤◌, Bool, true, false, ◌&&◌, ◌||◌, eqb, ltb, List, length, get_or, set, sym, refl, ap, ◌∙◌, inl, inr, mod-lt, arith}
-use mathlib.Core.Bool.{and_true, or_assoc, or-false}
+use mathlib.Core.Bool.{and-true, or_assoc, or-false}
 use Rattle.std.proofs.lemmas.List.{get_or-set_same, get_or-set_other, length-set}
 use Rattle.std.proofs.lemmas.Bool.{and_from, and_left, and_parts, and_right, both_ways, cases_Bool, cases_eq, cases_lt, cond_both, eq-eqb, eqb-false, eqb-true, lt-ltb, le-ltb, or_right}
 use Rattle.history.specs.Entries.{is_cue}
@@ -157,7 +157,7 @@ module _ (given : Bool) (test : ℕ → Bool) where
   pub upto_all : (n m : ℕ) → (test m ≡ true → m < n) → ((given && test m) && ltb m n) ≡ (given && test m)
   upto_all n m low =
       elim (cases_Bool (test m)) [
-        | inl e ↦ ap (λ (x : Bool). (given && test m) && x) (lt-ltb m n (low e)) ∙ and_true (given && test m)
+        | inl e ↦ ap (λ (x : Bool). (given && test m) && x) (lt-ltb m n (low e)) ∙ and-true (given && test m)
         | inr e ↦
             let none : (given && test m) ≡ false = and_right given (test m) e in
             and_left (given && test m) (ltb m n) none ∙ sym none

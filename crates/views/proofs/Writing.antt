@@ -1,6 +1,6 @@
 -- The cues that write an item, met one entry after another. Assumes nothing.
 use Rattle.std.proofs.Common.{◌≡◌, ℕ, ◌+◌, ◌-◌, ◌<◌, ◌≤◌, Bool, true, false, cond, ◌&&◌, ◌||◌, eqb, List, [], ◌∷◌, ◌++◌, length, get_or, take, set, replicate, Some, None, Option, sym, refl, ap, ◌∙◌, inl, inr, arith}
-use mathlib.Core.Bool.{and_true, or-false}
+use mathlib.Core.Bool.{and-true, or-false}
 use Rattle.std.specs.Option.{option_map}
 use Rattle.std.proofs.lemmas.List.{get_or-replicate, get_or-set_same, get_or-set_other, length-replicate, length-set, take_all, take_more}
 use Rattle.std.proofs.lemmas.Bool.{and_from, and_left, and_parts, and_right, cases_Bool, cases_eq, eq-eqb, eqb-true, ne_eqb, or_right}
@@ -91,7 +91,7 @@ module _ {K : Type 0} (alike : K → K → Bool) (c : ℕ → Bool) (k : K) wher
         record {
           long = length-set found (w.cue - 1) true ∙ had.long;
           marks = λ n.
-              let same : (eqb w.cue n && sets alike c k w) ≡ eqb w.cue n = ap (λ (b : Bool). eqb w.cue n && b) passes ∙ and_true (eqb w.cue n) in
+              let same : (eqb w.cue n && sets alike c k w) ≡ eqb w.cue n = ap (λ (b : Bool). eqb w.cue n && b) passes ∙ and-true (eqb w.cue n) in
               marked_set found w.cue n had.long cue
               ∙ ap (λ (b : Bool). b || eqb w.cue n) (had.marks n)
               ∙ ap (λ (b : Bool). writer alike c k (take i ws) n || b) (sym same)

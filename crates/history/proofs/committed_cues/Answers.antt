@@ -9,7 +9,7 @@ pub loop-n-preserved : goal.loop-n-preserved
 loop-n-preserved g c =
     let n = c.loop-n.n in
     let cues = c.loop-n.cues in
-    let r = c.is-committed.result in
+    let r = c.is_committed.result in
     let low : 1 ≤ n = c.loop-n.auto.n in (
       length-set cues (n - 1) r ∙ c.loop-n.invariant.0,
       λ k l h.
@@ -17,7 +17,7 @@ loop-n-preserved g c =
             | inl e ↦
                 ap (λ (m : ℕ). get_or (set cues (n - 1) r) (m - 1) false) e
                 ∙ get_or-set_same cues (n - 1) r false (omega (arith, c.loop-n.invariant.0))
-                ∙ c.is-committed.ensures
+                ∙ c.is_committed.ensures
                 ∙ ap (committed c.args.entries.now) (sym e)
             | inr ne ↦ get_or-set_other cues (n - 1) (k - 1) r false (λ z. ne (omega arith)) ∙ c.loop-n.invariant.1 k l (omega arith)
           ],

@@ -18,7 +18,7 @@ returns-then-admitted g c =
     let test = by c.args.cue (admits c.args.sought) in
     let passes = by_yes c.args.cue (admits c.args.sought) c.e-item.result c.if-e-cue.true (sym c.if-admitted.ensures) in
     let found = some_yes test c.args.entries.now c.loop-e.e-index c.e-item.result c.loop-e-test.true c.e-item.is passes in
-    sym (and_from (is_cue c.args.cue) (some test c.args.entries.now) (sym c.if-not-is-cue.ensures) (sym c.loop-e.invariant ∙ found))
+    sym (and_from (is_cue c.args.cue) (some test c.args.entries.now) (sym c.if-not-is_cue.ensures) (sym c.loop-e.invariant ∙ found))
 
 pub loop-e-preserved : goal.loop-e-preserved
 loop-e-preserved g c =

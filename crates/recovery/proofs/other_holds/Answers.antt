@@ -5,7 +5,7 @@ use Rattle.history.specs.declared.Entry.{Entry}
 use Rattle.history.specs.Entries.{ended}
 use Rattle.history.specs.Conflicts.{writes}
 use Rattle.recovery.proofs.other_holds.Goals as goal
-use Rattle.recovery.proofs.other_holds.Goals.{else-w-cue-via-then-w-cue+then-not-ended-in+else-writes-item, else-w-cue-via-then-w-cue+else-not-ended-in, else-w-cue-via-else-w-cue}
+use Rattle.recovery.proofs.other_holds.Goals.{else-w-cue-via-then-w-cue+then-not-ended_in+else-writes_item, else-w-cue-via-then-w-cue+else-not-ended_in, else-w-cue-via-else-w-cue}
 
 -- the test of a write by another cue
 abbrev held : {K : Type 0} → (K → K → Bool) → K → ℕ → List (Entry K) → Entry K → Bool
@@ -16,14 +16,14 @@ returns g c =
     let seen = c.args.seen.now in
     sym (some_end (held g.row.K-Item.alike c.args.item c.args.cue seen) seen c.loop-w.w-index c.loop-w-test.false) ∙ c.loop-w.invariant
 
-pub returns-then-writes-item : goal.returns-then-writes-item
-returns-then-writes-item g c =
+pub returns-then-writes_item : goal.returns-then-writes_item
+returns-then-writes_item g c =
     let seen = c.args.seen.now in
     let w = c.w-item.result in
     let test = held g.row.K-Item.alike c.args.item c.args.cue seen in
     let other : (not (eqb w.cue c.args.cue) && not (ended seen w.cue)) ≡ true =
-    and_from _ _ (not_from_false _ (ne_eqb w.cue c.args.cue c.if-w-cue.true)) (not_from_false _ (sym c.if-not-ended-in.ensures)) in
-    let passes : test w ≡ true = and_from _ _ (sym c.if-writes-item.ensures) other in
+    and_from _ _ (not_from_false _ (ne_eqb w.cue c.args.cue c.if-w-cue.true)) (not_from_false _ (sym c.if-not-ended_in.ensures)) in
+    let passes : test w ≡ true = and_from _ _ (sym c.if-writes_item.ensures) other in
     sym (some_yes test seen c.loop-w.w-index w c.loop-w-test.true c.w-item.is passes) ∙ c.loop-w.invariant
 
 pub loop-w-preserved : goal.loop-w-preserved
@@ -33,8 +33,8 @@ loop-w-preserved g c =
     let test = held g.row.K-Item.alike c.args.item c.args.cue seen in
     let fails : test w ≡ false =
     elim c.else-w-cue.branch [
-      | else-w-cue-via-then-w-cue+then-not-ended-in+else-writes-item y ↦ and_left _ _ (sym y.if-writes-item.ensures)
-      | else-w-cue-via-then-w-cue+else-not-ended-in y ↦ and_right (writes (g.row.K-Item.alike c.args.item) w.act) _ (and_right (not (eqb w.cue c.args.cue)) _ (not_from_true _ (sym y.if-not-ended-in.ensures)))
+      | else-w-cue-via-then-w-cue+then-not-ended_in+else-writes_item y ↦ and_left _ _ (sym y.if-writes_item.ensures)
+      | else-w-cue-via-then-w-cue+else-not-ended_in y ↦ and_right (writes (g.row.K-Item.alike c.args.item) w.act) _ (and_right (not (eqb w.cue c.args.cue)) _ (not_from_true _ (sym y.if-not-ended_in.ensures)))
       | else-w-cue-via-else-w-cue y ↦ and_right (writes (g.row.K-Item.alike c.args.item) w.act) _ (and_left _ (not (ended seen w.cue)) (not_from_true _ (eq-eqb w.cue c.args.cue y.if-w-cue.false)))
     ] in
     some_no test seen c.loop-w.w-index w c.loop-w-test.true c.w-item.is fails ∙ c.loop-w.invariant

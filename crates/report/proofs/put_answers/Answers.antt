@@ -4,5 +4,5 @@ use Rattle.report.proofs.put_answers.Goals as goal
 
 pub returns : goal.returns
 returns g c =
-    answers_put g.row.K-Item.alike (accepted c.args.book.now) c.args.space.now c.put-class-class.new.space c.put-order-order.new.space c.put-views.new.space
-    c.put-class-class.result c.put-order-order.result c.put-views.result c.requires.room c.put-class-class.ensures.next c.put-class-class.ensures.space c.put-order-order.ensures c.put-views.ensures
+    answers_put g.row.K-Item.alike (accepted c.args.book.now) c.args.space.now c.put_class-class.new.space c.put_order-order.new.space c.put_views.new.space
+    c.put_class-class.result c.put_order-order.result c.put_views.result c.requires.room c.put_class-class.ensures.next c.put_class-class.ensures.space c.put_order-order.ensures c.put_views.ensures

@@ -4,6 +4,6 @@ use Rattle.book.specs.Entering.{accepted}
 use Rattle.report.proofs.Bounds.{place_within}
 use Rattle.report.proofs.put_class.Goals as goal
 
-pub overflow-cast-place : goal.overflow-cast-place
-overflow-cast-place g c =
+pub overflow_cast-place : goal.overflow_cast-place
+overflow_cast-place g c =
     omega (arith, c.place.ensures ∙ ap class_place c.class-class.ensures, place_within g.row.K-Item.alike (accepted c.args.book.now), c.requires.few)

@@ -15,10 +15,10 @@ loop-n-preserved c =
     let numbers = c.args.numbers.now in
     let start = c.args.space.now in
     let k = c.loop-n.n-index in
-    let begun = word_laid at word numbers start c.told-word c.requires c.copy-from-slice.new.self c.copy-from-slice.ensures.after in
+    let begun = word_laid at word numbers start c.told-word c.requires c.copy_from_slice.new.self c.copy_from_slice.ensures.after in
     let inv = c.loop-n.invariant.1 ∙ ap (laid (at + 5) (flat_map (number_in 5) (take k numbers))) begun in (
       omega (arith, c.loop-n.invariant.0),
-      number_laid at word numbers start c.told-word c.requires k c.loop-n.space inv c.loop-n-test.true c.loop-n.next c.loop-n.invariant.0 c.write-number.new.field c.write-number.ensures
+      number_laid at word numbers start c.told-word c.requires k c.loop-n.space inv c.loop-n-test.true c.loop-n.next c.loop-n.invariant.0 c.write_number.new.field c.write_number.ensures
           ∙ sym (ap (laid (at + 5) (flat_map (number_in 5) (take (k + 1) numbers))) begun),
     )
 
@@ -29,7 +29,7 @@ returns c =
     let numbers = c.args.numbers.now in
     let start = c.args.space.now in
     let k = c.loop-n.n-index in
-    let begun = word_laid at word numbers start c.told-word c.requires c.copy-from-slice.new.self c.copy-from-slice.ensures.after in
+    let begun = word_laid at word numbers start c.told-word c.requires c.copy_from_slice.new.self c.copy_from_slice.ensures.after in
     let inv = c.loop-n.invariant.1 ∙ ap (laid (at + 5) (flat_map (number_in 5) (take k numbers))) begun in
     let all : length numbers ≡ k = omega (arith, c.loop-n-test.false, c.loop-n.auto.n-index-end) in
     record {

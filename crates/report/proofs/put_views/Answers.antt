@@ -6,15 +6,15 @@ use Rattle.views.specs.Answer.{views_refusal}
 use Rattle.report.proofs.Putting.{found_views, views_put}
 use Rattle.report.proofs.put_views.Goals as goal
 
-pub slice-bounds-put-line-end : goal.slice-bounds-put-line-end
-slice-bounds-put-line-end g c =
+pub slice_bounds-put_line-end : goal.slice_bounds-put_line-end
+slice_bounds-put_line-end g c =
     let es = accepted c.args.book.now in
     let cells = c.views.new.list in
     let found = found_views c.in-Some.count (replicate 8 0) cells (views_refusal es 8) (view_order g.row.K-Item.alike es) (ap Ok (sym c.in-Some.is) ∙ c.in-Ok.ensures.answer) c.in-Ok.ensures.list in
     found.small c.views.auto.list
 
-pub put-line-requires : goal.put-line-requires
-put-line-requires g c =
+pub put_line-requires : goal.put_line-requires
+put_line-requires g c =
     let es = accepted c.args.book.now in
     let cells = c.views.new.list in
     let found = found_views c.in-Some.count (replicate 8 0) cells (views_refusal es 8) (view_order g.row.K-Item.alike es) (ap Ok (sym c.in-Some.is) ∙ c.in-Ok.ensures.answer) c.in-Ok.ensures.list in
@@ -27,4 +27,4 @@ returns-in-Some g c =
     let cells = c.views.new.list in
     let found = found_views c.in-Some.count (replicate 8 0) cells (views_refusal es 8) (view_order g.row.K-Item.alike es) (ap Ok (sym c.in-Some.is) ∙ c.in-Ok.ensures.answer) c.in-Ok.ensures.list in
     let few : c.in-Some.count ≤ 8 = omega (arith, found.small c.views.auto.list, c.views.auto.list) in
-    views_put g.row.K-Item.alike es c.args.at c.args.space.now c.put-line.new.space c.put-line.result c.in-Some.count (replicate 8 0) cells c.views.auto.list few found c.put-line.ensures.next c.put-line.ensures.space
+    views_put g.row.K-Item.alike es c.args.at c.args.space.now c.put_line.new.space c.put_line.result c.in-Some.count (replicate 8 0) cells c.views.auto.list few found c.put_line.ensures.next c.put_line.ensures.space

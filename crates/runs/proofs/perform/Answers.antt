@@ -5,21 +5,21 @@ use Rattle.runs.specs.declared.Answer.{Answer}
 use Rattle.runs.specs.Runs.{wanted, Performed}
 use Rattle.runs.proofs.Going.{counted, counted_ticket, counted_other, going_more, going_all, wanted_none}
 use Rattle.runs.proofs.perform.Goals as goal
-use Rattle.runs.proofs.perform.Goals.{in-Ticket, in-default}
+use Rattle.runs.proofs.perform.Goals.{in-Ticket, in_default}
 
 pub loop-k-preserved : goal.loop-k-preserved
 loop-k-preserved g c =
-    let a = c.perform-one-answer.result in
+    let a = c.perform_one-answer.result in
     let given = c.loop-k.given in
     let counts : c.match-answer.given ≡ counted a given =
     elim c.match-answer.branch [
       | in-Ticket w ↦ w.given-is ∙ sym (counted_ticket a w.in-Ticket.field-0 given w.in-Ticket.is)
-      | in-default w ↦ w.given-is ∙ sym (counted_other a given w.in-default.not-Ticket)
+      | in_default w ↦ w.given-is ∙ sym (counted_other a given w.in_default.not-Ticket)
     ] in
     let room_left : c.loop-k.k < length c.loop-k.answers = omega (arith, c.loop-k-test.true, c.if-answers-calls.false, c.loop-k.auto.answers) in
     going_more g.row.K-Item.alike g.row.K-Item.parsed (room c.new-book.result) c.args.calls.now c.args.answers.now c.args.tickets.now c.new-book.result
     c.loop-k.answers c.loop-k.tickets c.loop-k.book given c.loop-k.k c.loop-k.invariant
-    c.index-calls-k.result c.loop-k-test.true room_left c.index-calls-k.is c.perform-one-answer.new.tickets c.perform-one-answer.new.book a c.perform-one-answer.ensures.done c.perform-one-answer.ensures.lays c.match-answer.given counts
+    c.index-calls-k.result c.loop-k-test.true room_left c.index-calls-k.is c.perform_one-answer.new.tickets c.perform_one-answer.new.book a c.perform_one-answer.ensures.done c.perform_one-answer.ensures.lays c.match-answer.given counts
 
 pub returns : goal.returns
 returns g c =

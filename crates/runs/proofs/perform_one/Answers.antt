@@ -12,8 +12,8 @@ use Rattle.runs.specs.Runs.{place_or, lines_or, Done}
 use Rattle.runs.proofs.Doing.{idle, why_done, enter_done, read_done, same_call, record_not_given, record_used, record_done, begin_given, begin_refused, end_not_given, end_used, end_done, end_refused, closed_ok, closed_err}
 use Rattle.runs.proofs.perform_one.Goals as goal
 
-pub returns-then-not-is-given : goal.returns-then-not-is-given
-returns-then-not-is-given g c =
+pub returns-then-not-is_given : goal.returns-then-not-is_given
+returns-then-not-is_given g c =
     let alike = g.row.K-Item.alike in
     let parsed = g.row.K-Item.parsed in
     let b = c.args.book.now in
@@ -21,12 +21,12 @@ returns-then-not-is-given g c =
     let cells = c.args.tickets.now in
     let given = c.args.given in
     record {
-      done = same_call alike parsed (room b) es cells given c.requires c.args.call.now (call.Record c.in-Record.number c.in-Record.step) c.in-Record.is (cells) (es) (answer.NoTicket) (record_not_given alike parsed (room b) es cells given c.requires c.in-Record.number c.in-Record.step (sym c.if-not-is-given.ensures));
+      done = same_call alike parsed (room b) es cells given c.requires c.args.call.now (call.Record c.in-Record.number c.in-Record.step) c.in-Record.is (cells) (es) (answer.NoTicket) (record_not_given alike parsed (room b) es cells given c.requires c.in-Record.number c.in-Record.step (sym c.if-not-is_given.ensures));
       lays = lays_none b;
     }
 
-pub returns-then-not-is-given-2 : goal.returns-then-not-is-given-2
-returns-then-not-is-given-2 g c =
+pub returns-then-not-is_given-2 : goal.returns-then-not-is_given-2
+returns-then-not-is_given-2 g c =
     let alike = g.row.K-Item.alike in
     let parsed = g.row.K-Item.parsed in
     let b = c.args.book.now in
@@ -34,7 +34,7 @@ returns-then-not-is-given-2 g c =
     let cells = c.args.tickets.now in
     let given = c.args.given in
     record {
-      done = same_call alike parsed (room b) es cells given c.requires c.args.call.now (call.End c.in-End.number c.in-End.ending) c.in-End.is (cells) (es) (answer.NoTicket) (end_not_given alike parsed (room b) es cells given c.requires c.in-End.number c.in-End.ending (sym c.if-not-is-given-2.ensures));
+      done = same_call alike parsed (room b) es cells given c.requires c.args.call.now (call.End c.in-End.number c.in-End.ending) c.in-End.is (cells) (es) (answer.NoTicket) (end_not_given alike parsed (room b) es cells given c.requires c.in-End.number c.in-End.ending (sym c.if-not-is_given-2.ensures));
       lays = lays_none b;
     }
 
@@ -47,7 +47,7 @@ returns-in-Enter g c =
     let cells = c.args.tickets.now in
     let given = c.args.given in
     record {
-      done = same_call alike parsed (room b) es cells given c.requires c.args.call.now (call.Enter c.in-Enter.entry) c.in-Enter.is (cells) (accepted c.enter.new.self) c.place-or.result (enter_done alike parsed (room b) es cells given c.requires c.in-Enter.entry c.enter.result c.place-or.result (accepted c.enter.new.self) c.enter.ensures.answer (c.enter.ensures.grows ∙ ap (λ (act : Act g.row.K.Denot). grown c.enter.result (record { cue = c.in-Enter.entry.cue; act = act }) es) c.copy-act.ensures) c.place-or.ensures);
+      done = same_call alike parsed (room b) es cells given c.requires c.args.call.now (call.Enter c.in-Enter.entry) c.in-Enter.is (cells) (accepted c.enter.new.self) c.place_or.result (enter_done alike parsed (room b) es cells given c.requires c.in-Enter.entry c.enter.result c.place_or.result (accepted c.enter.new.self) c.enter.ensures.answer (c.enter.ensures.grows ∙ ap (λ (act : Act g.row.K.Denot). grown c.enter.result (record { cue = c.in-Enter.entry.cue; act = act }) es) c.copy_act.ensures) c.place_or.ensures);
       lays = c.enter.ensures.lays;
     }
 
@@ -60,7 +60,7 @@ returns-in-Ok g c =
     let cells = c.args.tickets.now in
     let given = c.args.given in
     record {
-      done = same_call alike parsed (room b) es cells given c.requires c.args.call.now (call.ReadIn c.in-ReadIn.sheet) c.in-ReadIn.is (cells) (accepted c.read-in.new.self) (answer.Lines c.in-Ok.lines) (read_done alike parsed (room b) es cells given c.requires c.in-ReadIn.sheet.now (call.ReadIn c.in-ReadIn.sheet) refl refl (answer.Lines c.in-Ok.lines) (ap lines_or c.in-Ok.ensures.answer) (accepted c.read-in.new.self) c.in-Ok.ensures.grows);
+      done = same_call alike parsed (room b) es cells given c.requires c.args.call.now (call.ReadIn c.in-ReadIn.sheet) c.in-ReadIn.is (cells) (accepted c.read_in.new.self) (answer.Lines c.in-Ok.lines) (read_done alike parsed (room b) es cells given c.requires c.in-ReadIn.sheet.now (call.ReadIn c.in-ReadIn.sheet) refl refl (answer.Lines c.in-Ok.lines) (ap lines_or c.in-Ok.ensures.answer) (accepted c.read_in.new.self) c.in-Ok.ensures.grows);
       lays = c.in-Ok.ensures.lays;
     }
 
@@ -73,7 +73,7 @@ returns-in-Err g c =
     let cells = c.args.tickets.now in
     let given = c.args.given in
     record {
-      done = same_call alike parsed (room b) es cells given c.requires c.args.call.now (call.ReadIn c.in-ReadIn.sheet) c.in-ReadIn.is (cells) (accepted c.read-in.new.self) (answer.Fault c.in-Err.fault) (read_done alike parsed (room b) es cells given c.requires c.in-ReadIn.sheet.now (call.ReadIn c.in-ReadIn.sheet) refl refl (answer.Fault c.in-Err.fault) (ap lines_or c.in-Err.ensures.answer) (accepted c.read-in.new.self) c.in-Err.ensures.grows);
+      done = same_call alike parsed (room b) es cells given c.requires c.args.call.now (call.ReadIn c.in-ReadIn.sheet) c.in-ReadIn.is (cells) (accepted c.read_in.new.self) (answer.Fault c.in-Err.fault) (read_done alike parsed (room b) es cells given c.requires c.in-ReadIn.sheet.now (call.ReadIn c.in-ReadIn.sheet) refl refl (answer.Fault c.in-Err.fault) (ap lines_or c.in-Err.ensures.answer) (accepted c.read_in.new.self) c.in-Err.ensures.grows);
       lays = c.in-Err.ensures.lays;
     }
 
@@ -112,7 +112,7 @@ returns-in-Some g c =
     let cells = c.args.tickets.now in
     let given = c.args.given in
     record {
-      done = same_call alike parsed (room b) es cells given c.requires c.args.call.now (call.Record c.in-Record.number c.in-Record.step) c.in-Record.is (cells) (accepted c.record.new.self) c.place-or-in-Some.result (record_done alike parsed (room b) es cells given c.requires c.in-Record.number c.in-Record.step c.in-Some.ticket (sym c.if-not-is-given.ensures) c.in-Some.is c.record.result c.place-or-in-Some.result (accepted c.record.new.self) c.record.ensures.answer (c.record.ensures.grows ∙ ap (λ (st : Step g.row.K.Denot). grown c.record.result (under c.in-Some.ticket (stepped st)) es) c.copy-step.ensures) c.place-or-in-Some.ensures);
+      done = same_call alike parsed (room b) es cells given c.requires c.args.call.now (call.Record c.in-Record.number c.in-Record.step) c.in-Record.is (cells) (accepted c.record.new.self) c.place_or-in-Some.result (record_done alike parsed (room b) es cells given c.requires c.in-Record.number c.in-Record.step c.in-Some.ticket (sym c.if-not-is_given.ensures) c.in-Some.is c.record.result c.place_or-in-Some.result (accepted c.record.new.self) c.record.ensures.answer (c.record.ensures.grows ∙ ap (λ (st : Step g.row.K.Denot). grown c.record.result (under c.in-Some.ticket (stepped st)) es) c.copy_step.ensures) c.place_or-in-Some.ensures);
       lays = c.record.ensures.lays;
     }
 
@@ -125,7 +125,7 @@ returns-in-None g c =
     let cells = c.args.tickets.now in
     let given = c.args.given in
     record {
-      done = same_call alike parsed (room b) es cells given c.requires c.args.call.now (call.Record c.in-Record.number c.in-Record.step) c.in-Record.is (cells) (es) (answer.NoTicket) (record_used alike parsed (room b) es cells given c.requires c.in-Record.number c.in-Record.step (sym c.if-not-is-given.ensures) c.in-None.is);
+      done = same_call alike parsed (room b) es cells given c.requires c.args.call.now (call.Record c.in-Record.number c.in-Record.step) c.in-Record.is (cells) (es) (answer.NoTicket) (record_used alike parsed (room b) es cells given c.requires c.in-Record.number c.in-Record.step (sym c.if-not-is_given.ensures) c.in-None.is);
       lays = lays_none b;
     }
 
@@ -139,7 +139,7 @@ returns-in-Ok-end g c =
     let given = c.args.given in
     let n = c.in-End.number in
     let d = c.in-End.ending in
-    let h = sym c.if-not-is-given-2.ensures in
+    let h = sym c.if-not-is_given-2.ensures in
     let t = c.in-Some-replace.ticket in
     let rc = c.in-Ok-end.receipt in
     let r = entered (room b) es t.cue in
@@ -160,7 +160,7 @@ returns-in-Err-end g c =
     let given = c.args.given in
     let n = c.in-End.number in
     let d = c.in-End.ending in
-    let h = sym c.if-not-is-given-2.ensures in
+    let h = sym c.if-not-is_given-2.ensures in
     let t = c.in-Some-replace.ticket in
     let u = c.in-Err-end.ticket in
     let f = c.in-Err-end.refusal in
@@ -182,7 +182,7 @@ returns-in-None-replace g c =
     let given = c.args.given in
     let n = c.in-End.number in
     let d = c.in-End.ending in
-    let h = sym c.if-not-is-given-2.ensures in
+    let h = sym c.if-not-is_given-2.ensures in
     record {
       done = same_call alike parsed (room b) es cells given c.requires c.args.call.now (call.End n d) c.in-End.is (set cells (n - 1) c.replace.new.dest) es answer.NoTicket (end_used alike parsed (room b) es cells given c.requires n d c.replace.new.dest h (sym c.in-None-replace.ensures.value) c.in-None-replace.ensures.after);
       lays = lays_none b;

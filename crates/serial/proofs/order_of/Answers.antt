@@ -8,8 +8,8 @@ pub returns : goal.returns
 returns g c =
     let alike = g.row.K-Item.alike in
     let es = c.args.entries.now in
-    let graph = c.conflict-graph-graph.result in
-    let draws = c.conflict-graph-graph.ensures in
+    let graph = c.conflict_graph-graph.result in
+    let draws = c.conflict_graph-graph.ensures in
     let sameness : Sameness alike = record { reflexive = g.met.K.Item.reflexive; symmetric = g.met.K.Item.symmetric; transitive = g.met.K.Item.transitive } in
     let lists = same_lists alike es graph draws c.args.list.now c.search.new.list c.search.result c.search.ensures.lists in
     record {

@@ -7,13 +7,13 @@ use Rattle.items.proofs.MarkItem.same.Goals.{then-loop-mine-test+else-theirs-gt0
 pub returns-then-fold : goal.returns-then-fold
 returns-then-fold c =
     sym (last_differ c.loop-mine.mine c.loop-mine.theirs c.loop-mine-test.true c.if-theirs-gt0.true c.loop-mine.invariant.1 c.loop-mine.invariant.2
-    (λ e. c.if-fold.true (c.fold.ensures ∙ ap folded c.letter-last.ensures ∙ e ∙ sym (c.fold-in-loop-mine.ensures ∙ ap folded c.letter-their-last.ensures))))
+    (λ e. c.if-fold.true (c.fold.ensures ∙ ap folded c.letter-last.ensures ∙ e ∙ sym (c.fold-in-loop-mine.ensures ∙ ap folded c.letter-their_last.ensures))))
     ∙ c.loop-mine.invariant.0
 
 pub loop-mine-preserved : goal.loop-mine-preserved
 loop-mine-preserved c = (
   last_agree c.loop-mine.mine c.loop-mine.theirs c.loop-mine-test.true c.if-theirs-gt0.true c.loop-mine.invariant.1 c.loop-mine.invariant.2
-      (sym (c.fold.ensures ∙ ap folded c.letter-last.ensures) ∙ c.if-fold.false ∙ c.fold-in-loop-mine.ensures ∙ ap folded c.letter-their-last.ensures)
+      (sym (c.fold.ensures ∙ ap folded c.letter-last.ensures) ∙ c.if-fold.false ∙ c.fold-in-loop-mine.ensures ∙ ap folded c.letter-their_last.ensures)
       ∙ c.loop-mine.invariant.0,
   omega (arith, c.loop-mine.invariant.1),
   omega (arith, c.loop-mine.invariant.2),

@@ -12,5 +12,5 @@ returns-in-Digits c =
     let bs = c.in-Digits.part.bytes.now in
     let same : (seen c.args.field).bytes ≡ bs = ap (λ (f : Field). (seen f).bytes) c.in-Digits.is in
     let four : length bs ≡ 4 = subst (λ (xs : List ℕ). length xs ≡ 4) same c.requires.four in
-    c.ok-or.ensures.value
-    ∙ ap (λ (o : Option ℕ). ok_or o CueField) (c.read-number.ensures ∙ number_fits 4 bs (omega arith) ∙ ap number (sym same))
+    c.ok_or.ensures.value
+    ∙ ap (λ (o : Option ℕ). ok_or o CueField) (c.read_number.ensures ∙ number_fits 4 bs (omega arith) ∙ ap number (sym same))

@@ -5,20 +5,20 @@ use Rattle.lines.specs.Reading.{act_in}
 use Rattle.lines.proofs.Reading.{entry_no_cue, entry_with_cue}
 use Rattle.lines.proofs.reads.read_fields.Goals as goal
 
-pub returns-in-err-cue : goal.returns-in-err-cue
-returns-in-err-cue g c =
-    let p = err_from_is_err_and c.from-residual.result c.from-residual.ensures.1 in
-    p.1 ∙ ap Err p.2 ∙ sym (entry_no_cue g.row.K-Item.parsed (viewed c.args.fields) _ (sym c.in-err-cue.ensures))
+pub returns-in_err-cue : goal.returns-in_err-cue
+returns-in_err-cue g c =
+    let p = err_from_is_err_and c.from_residual.result c.from_residual.ensures.1 in
+    p.1 ∙ ap Err p.2 ∙ sym (entry_no_cue g.row.K-Item.parsed (viewed c.args.fields) _ (sym c.in_err-cue.ensures))
 
-pub returns-in-err-act : goal.returns-in-err-act
-returns-in-err-act g c =
-    let p = err_from_is_err_and c.from-residual-in-err-act.result c.from-residual-in-err-act.ensures.1 in
-    let letter = ap (λ (n : ℕ). act_in g.row.K-Item.parsed n (seen c.args.fields.item).bytes) (sym c.letter-in.ensures) in
+pub returns-in_err-act : goal.returns-in_err-act
+returns-in_err-act g c =
+    let p = err_from_is_err_and c.from_residual-in_err-act.result c.from_residual-in_err-act.ensures.1 in
+    let letter = ap (λ (n : ℕ). act_in g.row.K-Item.parsed n (seen c.args.fields.item).bytes) (sym c.letter_in.ensures) in
     p.1
     ∙ ap Err p.2
-    ∙ sym (entry_with_cue g.row.K-Item.parsed (viewed c.args.fields) _ (Err c.in-err-act.field-0.0) (sym c.in-ok-cue.ensures) c.if-not-fields.false (letter ∙ sym c.in-err-act.ensures))
+    ∙ sym (entry_with_cue g.row.K-Item.parsed (viewed c.args.fields) _ (Err c.in_err-act.field-0.0) (sym c.in_ok-cue.ensures) c.if-not-fields.false (letter ∙ sym c.in_err-act.ensures))
 
 pub returns : goal.returns
 returns g c =
-    let letter = ap (λ (n : ℕ). act_in g.row.K-Item.parsed n (seen c.args.fields.item).bytes) (sym c.letter-in.ensures) in
-    sym (entry_with_cue g.row.K-Item.parsed (viewed c.args.fields) _ (Ok c.in-ok-act.act) (sym c.in-ok-cue.ensures) c.if-not-fields.false (letter ∙ sym c.in-ok-act.ensures))
+    let letter = ap (λ (n : ℕ). act_in g.row.K-Item.parsed n (seen c.args.fields.item).bytes) (sym c.letter_in.ensures) in
+    sym (entry_with_cue g.row.K-Item.parsed (viewed c.args.fields) _ (Ok c.in_ok-act.act) (sym c.in_ok-cue.ensures) c.if-not-fields.false (letter ∙ sym c.in_ok-act.ensures))

@@ -11,29 +11,29 @@ use Rattle.lines.proofs.reads.read_line.Goals.{In-Some}
 -- the line that was cut
 cut_some : (g : given.Over) (c : In-Some g) → cut_of c.args.sheet.now ≡ Ok (Some (viewed c.in-Some.fields))
 cut_some g c =
-    sym c.cut.ensures ∙ ap viewed_cut (c.in-ok-cut.was ∙ ap Ok c.in-Some.is)
+    sym c.cut.ensures ∙ ap viewed_cut (c.in_ok-cut.was ∙ ap Ok c.in-Some.is)
 
-pub returns-in-err-cut : goal.returns-in-err-cut
-returns-in-err-cut g c =
-    let p = err_from_is_err_and c.from-residual.result c.from-residual.ensures.1 in
-    p.1 ∙ ap Err p.2 ∙ sym (next_bad g.row.K-Item.parsed c.args.sheet.now _ (sym c.cut.ensures ∙ ap viewed_cut c.in-err-cut.was))
+pub returns-in_err-cut : goal.returns-in_err-cut
+returns-in_err-cut g c =
+    let p = err_from_is_err_and c.from_residual.result c.from_residual.ensures.1 in
+    p.1 ∙ ap Err p.2 ∙ sym (next_bad g.row.K-Item.parsed c.args.sheet.now _ (sym c.cut.ensures ∙ ap viewed_cut c.in_err-cut.was))
 
-pub read-fields-requires : goal.read-fields-requires
-read-fields-requires g c = cut_well c.args.sheet.now _ (cut_some g c)
+pub read_fields-requires : goal.read_fields-requires
+read_fields-requires g c = cut_well c.args.sheet.now _ (cut_some g c)
 
-pub returns-in-err-read-fields : goal.returns-in-err-read-fields
-returns-in-err-read-fields g c =
-    let p = err_from_is_err_and c.from-residual-in-err-read-fields.result c.from-residual-in-err-read-fields.ensures.1 in
-    let at = (goal.at.returns-in-err-read-fields g c).In-Some in
+pub returns-in_err-read_fields : goal.returns-in_err-read_fields
+returns-in_err-read_fields g c =
+    let p = err_from_is_err_and c.from_residual-in_err-read_fields.result c.from_residual-in_err-read_fields.ensures.1 in
+    let at = (goal.at.returns-in_err-read_fields g c).In-Some in
     p.1
     ∙ ap Err p.2
-    ∙ sym (next_line g.row.K-Item.parsed c.args.sheet.now (viewed c.in-Some.fields) (Err c.in-err-read-fields.field-0.0) (cut_some g at) (sym c.in-err-read-fields.ensures))
+    ∙ sym (next_line g.row.K-Item.parsed c.args.sheet.now (viewed c.in-Some.fields) (Err c.in_err-read_fields.field-0.0) (cut_some g at) (sym c.in_err-read_fields.ensures))
 
 pub returns-in-None : goal.returns-in-None
 returns-in-None g c =
-    sym (next_end g.row.K-Item.parsed c.args.sheet.now (sym c.cut.ensures ∙ ap viewed_cut (c.in-ok-cut.was ∙ ap Ok c.in-None.is)))
+    sym (next_end g.row.K-Item.parsed c.args.sheet.now (sym c.cut.ensures ∙ ap viewed_cut (c.in_ok-cut.was ∙ ap Ok c.in-None.is)))
 
-pub returns-in-ok-read-fields : goal.returns-in-ok-read-fields
-returns-in-ok-read-fields g c =
-    let at = (goal.at.returns-in-ok-read-fields g c).In-Some in
-    sym (next_line g.row.K-Item.parsed c.args.sheet.now (viewed c.in-Some.fields) (Ok c.in-ok-read-fields.field-0) (cut_some g at) (sym c.in-ok-read-fields.ensures))
+pub returns-in_ok-read_fields : goal.returns-in_ok-read_fields
+returns-in_ok-read_fields g c =
+    let at = (goal.at.returns-in_ok-read_fields g c).In-Some in
+    sym (next_line g.row.K-Item.parsed c.args.sheet.now (viewed c.in-Some.fields) (Ok c.in_ok-read_fields.field-0) (cut_some g at) (sym c.in_ok-read_fields.ensures))

@@ -3,14 +3,14 @@ use Rattle.lines.specs.Reading.{next_in}
 use Rattle.lines.proofs.RoundTrip.{next_again}
 use Rattle.lines.proofs.writes.copy_line.Goals as goal
 
-pub returns-in-ok-write-line : goal.returns-in-ok-write-line
-returns-in-ok-write-line g c =
+pub returns-in_ok-write_line : goal.returns-in_ok-write_line
+returns-in_ok-write_line g c =
     let sheet = c.args.sheet.now in
     let e = c.in-Some.entry in
-    let next : next_in g.row.K-Item.parsed sheet ≡ Ok (Some e) = sym c.read-line.ensures ∙ c.in-ok-read-line.was ∙ ap Ok c.in-Some.is in
+    let next : next_in g.row.K-Item.parsed sheet ≡ Ok (Some e) = sym c.read_line.ensures ∙ c.in_ok-read_line.was ∙ ap Ok c.in-Some.is in
     record {
       answer = search rules;
       space =
-          c.in-ok-write-line.ensures.space
+          c.in_ok-write_line.ensures.space
           ∙ ap (λ (xs : List ℕ). xs ++ drop 16 c.args.space.now) (next_again g.row.K-Item.text g.row.K-Item.parsed g.met.K.Exact.exact sheet e next);
     }

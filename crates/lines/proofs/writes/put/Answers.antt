@@ -9,5 +9,5 @@ returns c =
     let bytes = c.args.bytes.now in
     let at = c.args.at in
     let wide : (at + length bytes) - at ≡ length bytes = omega arith in
-    (λ i. put_mid at (wide i) space (c.copy-from-slice.ensures.after i))
+    (λ i. put_mid at (wide i) space (c.copy_from_slice.ensures.after i))
     ∙ ap (λ (xs : List ℕ). take at space ++ (bytes ++ xs)) (drop-drop (length bytes) at space)

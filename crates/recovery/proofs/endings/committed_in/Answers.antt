@@ -8,4 +8,4 @@ pub returns : goal.returns
 returns g c =
     let es = c.args.seen.now in
     let all = take_all (length es) es (omega arith) in
-    c.is-below.ensures ∙ sym (c.requires.committed c.args.cue (length es) (omega arith)) ∙ ap (λ (xs : List (Entry _)). committed xs c.args.cue) all
+    c.is_below.ensures ∙ sym (c.requires.committed c.args.cue (length es) (omega arith)) ∙ ap (λ (xs : List (Entry _)). committed xs c.args.cue) all

@@ -4,44 +4,44 @@ use Rattle.history.specs.declared.Entry.{Entry}
 use Rattle.serial.specs.Drawn.{Adds}
 use Rattle.serial.proofs.Drawing.{Drew, drew_none, drew_more, drew_past, drew_all}
 use Rattle.serial.proofs.arrows.conflict_graph.Goals as goal
-use Rattle.serial.proofs.arrows.conflict_graph.Goals.{then-is-marked, else-is-marked}
+use Rattle.serial.proofs.arrows.conflict_graph.Goals.{then-is_marked, else-is_marked}
 
 pub loop-p-init : goal.loop-p-init
-loop-p-init g c = (refl, drew_none g.row.K-Item.alike c.committed-cues-cues.result c.args.entries.now)
+loop-p-init g c = (refl, drew_none g.row.K-Item.alike c.committed_cues-cues.result c.args.entries.now)
 
 pub loop-p-preserved : goal.loop-p-preserved
 loop-p-preserved g c =
     let alike = g.row.K-Item.alike in
-    let cues = c.committed-cues-cues.result in
+    let cues = c.committed_cues-cues.result in
     let es = c.args.entries.now in
     let p = c.loop-p.p in
     let x = c.index-entries-p.result in
     let edges = c.loop-p.edges in
-    let edges' = c.if-is-marked.edges in
+    let edges' = c.if-is_marked.edges in
     let drew : Drew alike cues es (p + 1) edges' =
-    elim c.if-is-marked.branch [
-      | then-is-marked w ↦
-          let last = w.draw-from.new.edges in
-          let adds : Adds alike cues edges last x (drop (p + 1) es) = subst (Adds alike cues edges last x) (take_rest es (p + 1)) w.draw-from.ensures in
+    elim c.if-is_marked.branch [
+      | then-is_marked w ↦
+          let last = w.draw_from.new.edges in
+          let adds : Adds alike cues edges last x (drop (p + 1) es) = subst (Adds alike cues edges last x) (take_rest es (p + 1)) w.draw_from.ensures in
           subst (Drew alike cues es (p + 1)) (sym w.edges-is)
           (drew_more alike cues es p edges c.loop-p.invariant.1 x c.loop-p-test.true c.index-entries-p.is last adds)
-      | else-is-marked w ↦
+      | else-is_marked w ↦
           subst (Drew alike cues es (p + 1)) (sym w.edges-is)
-          (drew_past alike cues es p edges c.loop-p.invariant.1 x c.loop-p-test.true c.index-entries-p.is (sym w.if-is-marked.ensures))
+          (drew_past alike cues es p edges c.loop-p.invariant.1 x c.loop-p-test.true c.index-entries-p.is (sym w.if-is_marked.ensures))
     ] in
     let long : length edges' ≡ 4096 =
-    elim c.if-is-marked.branch [
-      | then-is-marked w ↦ ap length w.edges-is ∙ w.draw-from.array_long
-      | else-is-marked w ↦ ap length w.edges-is ∙ c.loop-p.invariant.0
+    elim c.if-is_marked.branch [
+      | then-is_marked w ↦ ap length w.edges-is ∙ w.draw_from.array_long
+      | else-is_marked w ↦ ap length w.edges-is ∙ c.loop-p.invariant.0
     ] in
     (long, drew)
 
 pub returns : goal.returns
 returns g c =
     let alike = g.row.K-Item.alike in
-    let cues = c.committed-cues-cues.result in
+    let cues = c.committed_cues-cues.result in
     let es = c.args.entries.now in
     record {
-      numbers = c.committed-cues-cues.ensures;
-      edges = λ i j ci cj. drew_all alike cues es c.loop-p.p c.loop-p.edges (drop_all c.loop-p.p es (omega arith)) c.loop-p.invariant.1 i j (c.committed-cues-cues.ensures i ∙ ci) (c.committed-cues-cues.ensures j ∙ cj);
+      numbers = c.committed_cues-cues.ensures;
+      edges = λ i j ci cj. drew_all alike cues es c.loop-p.p c.loop-p.edges (drop_all c.loop-p.p es (omega arith)) c.loop-p.invariant.1 i j (c.committed_cues-cues.ensures i ∙ ci) (c.committed_cues-cues.ensures j ∙ cj);
     }

@@ -5,42 +5,42 @@ use Rattle.views.specs.Noted.{Notes, none_ahead, none_apart}
 use Rattle.views.proofs.Asking.{read_first, read_own, read_other}
 use Rattle.views.proofs.Noting.{notes_hidden, notes_shown}
 use Rattle.views.proofs.constraints.ask_read.Goals as goal
-use Rattle.views.proofs.constraints.ask_read.Goals.{then-is-marked, then-is-marked-via-then-is-marked, then-is-marked-via-else-is-marked+then-is-marked-2, else-is-marked+else-is-marked-2}
+use Rattle.views.proofs.constraints.ask_read.Goals.{then-is_marked, then-is_marked-via-then-is_marked, then-is_marked-via-else-is_marked+then-is_marked-2, else-is_marked+else-is_marked-2}
 
 pub returns-in-None : goal.returns-in-None
 returns-in-None g c =
-    read_first g.row.K-Item.alike (marked c.args.cues.now) c.args.item c.args.t.now c.requires.ranked c.args.cue c.requires.cue c.args.before.now c.args.after.now c.writers-of-earlier.result.last c.writers-of-earlier.ensures.last
-    c.writers-of-later.result.cues c.put-first.new.t c.writers-of-later.ensures.marks c.put-first.ensures c.in-None.is
+    read_first g.row.K-Item.alike (marked c.args.cues.now) c.args.item c.args.t.now c.requires.ranked c.args.cue c.requires.cue c.args.before.now c.args.after.now c.writers_of-earlier.result.last c.writers_of-earlier.ensures.last
+    c.writers_of-later.result.cues c.put_first.new.t c.writers_of-later.ensures.marks c.put_first.ensures c.in-None.is
 
-pub returns-after-is-marked : goal.returns-after-is-marked
-returns-after-is-marked g c =
+pub returns-after-is_marked : goal.returns-after-is_marked
+returns-after-is_marked g c =
     let alike = g.row.K-Item.alike in
     let cues = c.args.cues.now in
     let k = c.args.item in
     let i = c.args.cue in
     let s = c.in-Some.source in
     let t = c.args.t.now in
-    let earlier = c.writers-of-earlier.result.cues in
-    let later = c.writers-of-later.result.cues in
+    let earlier = c.writers_of-earlier.result.cues in
+    let later = c.writers_of-later.result.cues in
     let hide = marked earlier i || marked later s in
-    let hid : Notes (marked cues) hide none_ahead none_apart t c.if-is-marked.t =
-    elim c.if-is-marked.branch [
-      | then-is-marked w ↦
+    let hid : Notes (marked cues) hide none_ahead none_apart t c.if-is_marked.t =
+    elim c.if-is_marked.branch [
+      | then-is_marked w ↦
           subst (Notes (marked cues) hide none_ahead none_apart t) (sym w.t-is)
           (notes_hidden (marked cues) t hide
-          (elim w.then-is-marked.branch [
-            | then-is-marked-via-then-is-marked v ↦ or_left (marked earlier i) (marked later s) (sym {b = marked earlier i} v.if-is-marked.ensures)
-            | then-is-marked-via-else-is-marked+then-is-marked-2 v ↦ or_right (marked earlier i) (marked later s) (sym {b = marked later s} v.if-is-marked-2.ensures)
+          (elim w.then-is_marked.branch [
+            | then-is_marked-via-then-is_marked v ↦ or_left (marked earlier i) (marked later s) (sym {b = marked earlier i} v.if-is_marked.ensures)
+            | then-is_marked-via-else-is_marked+then-is_marked-2 v ↦ or_right (marked earlier i) (marked later s) (sym {b = marked later s} v.if-is_marked-2.ensures)
           ]))
-      | else-is-marked+else-is-marked-2 w ↦
+      | else-is_marked+else-is_marked-2 w ↦
           subst (Notes (marked cues) hide none_ahead none_apart t) (sym w.t-is)
-          (notes_shown (marked cues) t hide (or_from (marked earlier i) (marked later s) (sym {b = marked earlier i} w.if-is-marked.ensures) (sym {b = marked later s} w.if-is-marked-2.ensures)))
+          (notes_shown (marked cues) t hide (or_from (marked earlier i) (marked later s) (sym {b = marked earlier i} w.if-is_marked.ensures) (sym {b = marked later s} w.if-is_marked-2.ensures)))
     ] in
-    read_other alike (marked cues) k t c.requires.ranked i c.requires.cue c.args.before.now c.args.after.now c.writers-of-earlier.result.last c.writers-of-earlier.ensures.last
-    s c.in-Some.is c.if-source-cue.true earlier later c.writers-of-earlier.ensures.marks c.writers-of-later.ensures.marks
-    c.if-is-marked.t c.put-ahead.new.t c.put-between.new.t hid c.put-ahead.ensures.is c.put-ahead.ensures.long c.put-between.ensures
+    read_other alike (marked cues) k t c.requires.ranked i c.requires.cue c.args.before.now c.args.after.now c.writers_of-earlier.result.last c.writers_of-earlier.ensures.last
+    s c.in-Some.is c.if-source-cue.true earlier later c.writers_of-earlier.ensures.marks c.writers_of-later.ensures.marks
+    c.if-is_marked.t c.put_ahead.new.t c.put_between.new.t hid c.put_ahead.ensures.is c.put_ahead.ensures.long c.put_between.ensures
 
 pub returns-else-source-cue : goal.returns-else-source-cue
 returns-else-source-cue g c =
-    read_own g.row.K-Item.alike (marked c.args.cues.now) c.args.item c.args.t.now c.requires.ranked c.args.cue c.requires.cue c.args.before.now c.args.after.now c.writers-of-earlier.result.last c.writers-of-earlier.ensures.last
+    read_own g.row.K-Item.alike (marked c.args.cues.now) c.args.item c.args.t.now c.requires.ranked c.args.cue c.requires.cue c.args.before.now c.args.after.now c.writers_of-earlier.result.last c.writers_of-earlier.ensures.last
     c.in-Some.source c.in-Some.is c.if-source-cue.false

@@ -5,7 +5,7 @@ use Rattle.views.specs.declared.constraints.Constraints.{Constraints}
 use Rattle.views.specs.Tables.{with_apart}
 use Rattle.views.proofs.Putting.{BetweenUpto, between_none, between_more, between_past, between_all}
 use Rattle.views.proofs.constraints.put_between.Goals as goal
-use Rattle.views.proofs.constraints.put_between.Goals.{then-n-source+then-n-reader+then-either-has, else-n-source, else-n-source-via-then-n-source+then-n-reader+else-either-has, else-n-source-via-then-n-source+else-n-reader, else-n-source-via-else-n-source}
+use Rattle.views.proofs.constraints.put_between.Goals.{then-n-source+then-n-reader+then-either_has, else-n-source, else-n-source-via-then-n-source+then-n-reader+else-either_has, else-n-source-via-then-n-source+else-n-reader, else-n-source-via-else-n-source}
 
 pub loop-n-init : goal.loop-n-init
 loop-n-init c = between_none c.args.t.now c.args.source c.args.reader c.args.earlier.now c.args.later.now
@@ -22,19 +22,19 @@ loop-n-preserved c =
     let apart = not (eqb n source) && not (eqb n reader) in
     let writes = marked earlier n || marked later n in
     elim c.if-n-source.branch [
-      | then-n-source+then-n-reader+then-either-has w ↦
-          let is : c.if-n-source.t ≡ with_apart t' source reader n = w.t-is ∙ w.put-apart.ensures.is in
+      | then-n-source+then-n-reader+then-either_has w ↦
+          let is : c.if-n-source.t ≡ with_apart t' source reader n = w.t-is ∙ w.put_apart.ensures.is in
           subst (BetweenUpto t source reader earlier later (n + 1)) (sym is)
           (between_more t source reader earlier later n t' c.loop-n.invariant
           (and_from apart writes
           (and_from (not (eqb n source)) (not (eqb n reader)) (not_from_false (eqb n source) (ne_eqb n source w.if-n-source.true)) (not_from_false (eqb n reader) (ne_eqb n reader w.if-n-reader.true)))
-          (sym w.if-either-has.ensures))
-          (sym (ap (λ (u : Constraints). length u.apart) w.put-apart.ensures.is) ∙ w.put-apart.ensures.long))
+          (sym w.if-either_has.ensures))
+          (sym (ap (λ (u : Constraints). length u.apart) w.put_apart.ensures.is) ∙ w.put_apart.ensures.long))
       | else-n-source w ↦
           subst (BetweenUpto t source reader earlier later (n + 1)) (sym w.t-is)
           (between_past t source reader earlier later n t' c.loop-n.invariant
           (elim w.else-n-source.branch [
-            | else-n-source-via-then-n-source+then-n-reader+else-either-has v ↦ and_right apart writes (sym v.if-either-has.ensures)
+            | else-n-source-via-then-n-source+then-n-reader+else-either_has v ↦ and_right apart writes (sym v.if-either_has.ensures)
             | else-n-source-via-then-n-source+else-n-reader v ↦
                 and_left apart writes (and_right (not (eqb n source)) (not (eqb n reader)) (not_from_true (eqb n reader) (eq-eqb n reader v.if-n-reader.false)))
             | else-n-source-via-else-n-source v ↦

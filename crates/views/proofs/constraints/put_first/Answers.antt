@@ -5,7 +5,7 @@ use Rattle.views.specs.declared.constraints.Constraints.{Constraints}
 use Rattle.views.specs.Tables.{with_ahead}
 use Rattle.views.proofs.Putting.{FirstUpto, first_none, first_more, first_past, first_all}
 use Rattle.views.proofs.constraints.put_first.Goals as goal
-use Rattle.views.proofs.constraints.put_first.Goals.{then-n-reader+then-is-marked, else-n-reader, else-n-reader-via-then-n-reader+else-is-marked, else-n-reader-via-else-n-reader}
+use Rattle.views.proofs.constraints.put_first.Goals.{then-n-reader+then-is_marked, else-n-reader, else-n-reader-via-then-n-reader+else-is_marked, else-n-reader-via-else-n-reader}
 
 pub loop-n-init : goal.loop-n-init
 loop-n-init c = first_none c.args.t.now c.args.reader c.args.writers.now
@@ -18,17 +18,17 @@ loop-n-preserved c =
     let n = c.loop-n.n in
     let t' = c.loop-n.t in
     elim c.if-n-reader.branch [
-      | then-n-reader+then-is-marked w ↦
-          let is : c.if-n-reader.t ≡ with_ahead t' reader n = w.t-is ∙ w.put-ahead.ensures.is in
+      | then-n-reader+then-is_marked w ↦
+          let is : c.if-n-reader.t ≡ with_ahead t' reader n = w.t-is ∙ w.put_ahead.ensures.is in
           subst (FirstUpto t reader writers (n + 1)) (sym is)
           (first_more t reader writers n t' c.loop-n.invariant
-          (and_from (not (eqb n reader)) (marked writers n) (not_from_false (eqb n reader) (ne_eqb n reader w.if-n-reader.true)) (sym w.if-is-marked.ensures))
-          (sym (ap (λ (u : Constraints). length u.ahead) w.put-ahead.ensures.is) ∙ w.put-ahead.ensures.long))
+          (and_from (not (eqb n reader)) (marked writers n) (not_from_false (eqb n reader) (ne_eqb n reader w.if-n-reader.true)) (sym w.if-is_marked.ensures))
+          (sym (ap (λ (u : Constraints). length u.ahead) w.put_ahead.ensures.is) ∙ w.put_ahead.ensures.long))
       | else-n-reader w ↦
           subst (FirstUpto t reader writers (n + 1)) (sym w.t-is)
           (first_past t reader writers n t' c.loop-n.invariant
           (elim w.else-n-reader.branch [
-            | else-n-reader-via-then-n-reader+else-is-marked v ↦ and_right (not (eqb n reader)) (marked writers n) (sym v.if-is-marked.ensures)
+            | else-n-reader-via-then-n-reader+else-is_marked v ↦ and_right (not (eqb n reader)) (marked writers n) (sym v.if-is_marked.ensures)
             | else-n-reader-via-else-n-reader v ↦
                 and_left (not (eqb n reader)) (marked writers n) (not_from_true (eqb n reader) (eq-eqb n reader v.if-n-reader.false))
           ]))

@@ -6,7 +6,7 @@ use Rattle.history.proofs.Marks.{marked_cue}
 use Rattle.equivalence.specs.Constraints.{sets}
 use Rattle.views.proofs.Writing.{Found, found_none, found_more, found_past, found_marks, found_last}
 use Rattle.views.proofs.constraints.writers_of.Goals as goal
-use Rattle.views.proofs.constraints.writers_of.Goals.{then-is-marked+then-writes-item, else-is-marked, else-is-marked-via-then-is-marked+else-writes-item, else-is-marked-via-else-is-marked}
+use Rattle.views.proofs.constraints.writers_of.Goals.{then-is_marked+then-writes_item, else-is_marked, else-is_marked-via-then-is_marked+else-writes_item, else-is_marked-via-else-is_marked}
 
 pub loop-w-init : goal.loop-w-init
 loop-w-init g c = found_none g.row.K-Item.alike (marked c.args.cues.now) c.args.item c.args.part.now
@@ -23,21 +23,21 @@ loop-w-preserved g c =
     let last = c.loop-w.last in
     let past : sets alike (marked cues) k w ≡ false → Found alike (marked cues) k ws (i + 1) found last =
     found_past alike (marked cues) k ws i found last c.loop-w.invariant w c.loop-w-test.true c.w-item.is in
-    let same : (found' : List Bool) (last' : Option ℕ) → c.if-is-marked.found ≡ found' → c.if-is-marked.last ≡ last' → Found alike (marked cues) k ws (i + 1) found' last' → Found alike (marked cues) k ws (i + 1) c.if-is-marked.found c.if-is-marked.last =
+    let same : (found' : List Bool) (last' : Option ℕ) → c.if-is_marked.found ≡ found' → c.if-is_marked.last ≡ last' → Found alike (marked cues) k ws (i + 1) found' last' → Found alike (marked cues) k ws (i + 1) c.if-is_marked.found c.if-is_marked.last =
     λ found' last' ef el. subst (λ (p : List Bool × Option ℕ). Found alike (marked cues) k ws (i + 1) p.0 p.1) (λ j. (sym ef j, sym el j)) in
-    elim c.if-is-marked.branch [
-      | then-is-marked+then-writes-item v ↦
-          let m : marked cues w.cue ≡ true = sym {b = marked cues w.cue} v.if-is-marked.ensures in
+    elim c.if-is_marked.branch [
+      | then-is_marked+then-writes_item v ↦
+          let m : marked cues w.cue ≡ true = sym {b = marked cues w.cue} v.if-is_marked.ensures in
           same (set found (w.cue - 1) true) (Some w.cue) v.found_is v.last_is
           (found_more alike (marked cues) k ws i found last c.loop-w.invariant w c.loop-w-test.true c.w-item.is (marked_cue cues w.cue m)
-          (and_from (marked cues w.cue) (writes (alike k) w.act) m (sym {b = writes (alike k) w.act} v.if-writes-item.ensures)))
-      | else-is-marked v ↦
+          (and_from (marked cues w.cue) (writes (alike k) w.act) m (sym {b = writes (alike k) w.act} v.if-writes_item.ensures)))
+      | else-is_marked v ↦
           same found last v.found_is v.last_is
-          (elim v.else-is-marked.branch [
-            | else-is-marked-via-then-is-marked+else-writes-item u ↦
-                past (and_right (marked cues w.cue) (writes (alike k) w.act) (sym {b = writes (alike k) w.act} u.if-writes-item.ensures))
-            | else-is-marked-via-else-is-marked u ↦
-                past (and_left (marked cues w.cue) (writes (alike k) w.act) (sym {b = marked cues w.cue} u.if-is-marked.ensures))
+          (elim v.else-is_marked.branch [
+            | else-is_marked-via-then-is_marked+else-writes_item u ↦
+                past (and_right (marked cues w.cue) (writes (alike k) w.act) (sym {b = writes (alike k) w.act} u.if-writes_item.ensures))
+            | else-is_marked-via-else-is_marked u ↦
+                past (and_left (marked cues w.cue) (writes (alike k) w.act) (sym {b = marked cues w.cue} u.if-is_marked.ensures))
           ])
     ]
 

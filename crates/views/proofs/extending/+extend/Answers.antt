@@ -5,7 +5,7 @@ use Rattle.history.proofs.Committed.{cue_low, cue_high}
 use Rattle.views.specs.Shown.{left_of, rest_of, is_found, laid_in}
 use Rattle.views.proofs.Trying.{has_at, rest_none, rest_tried, left_less, past_placed, past_barred, past_tried, rest_found, rest_end, laid_none, laid_whole, laid_more, found_more}
 use Rattle.views.proofs.extending.+extend.Goals as goal
-use Rattle.views.proofs.extending.+extend.Goals.{then-not-is-marked+then-may-come+else-extend, else-not-is-marked, else-not-is-marked-via-then-not-is-marked+else-may-come, else-not-is-marked-via-else-not-is-marked}
+use Rattle.views.proofs.extending.+extend.Goals.{then-not-is_marked+then-may_come+else-extend, else-not-is_marked, else-not-is_marked-via-then-not-is_marked+else-may_come, else-not-is_marked-via-else-not-is_marked}
 
 pub returns-then-at-cues : goal.returns-then-at-cues
 returns-then-at-cues t c =
@@ -19,8 +19,8 @@ pub loop-x-init : goal.loop-x-init
 loop-x-init t c =
     (refl, rest_tried c.args.t.now c.args.cues.now c.args.placed.now c.requires.distinct (omega (arith, c.requires.place, c.if-at-cues.false)))
 
-pub overflow-sub-next : goal.overflow-sub-next
-overflow-sub-next t c = cue_low _ (All-get_or (λ n. is_cue n ≡ true) c.args.cues.now c.loop-x.x-index 0 c.loop-x-test.true c.requires.cues)
+pub overflow_sub-next : goal.overflow_sub-next
+overflow_sub-next t c = cue_low _ (All-get_or (λ n. is_cue n ≡ true) c.args.cues.now c.loop-x.x-index 0 c.loop-x-test.true c.requires.cues)
 
 pub bounds-next-x : goal.bounds-next-x
 bounds-next-x t c =
@@ -33,7 +33,7 @@ extend-requires t c =
     let k = c.loop-x.x-index in
     let h = c.loop-x-test.true in
     let cue = All-get_or (λ n. is_cue n ≡ true) cues k 0 h c.requires.cues in
-    let less = left_less c.args.t.now cues c.args.placed.now k h c.told-placed c.requires.cues cue (has_at cues k h) c.requires.distinct (sym c.if-not-is-marked.ensures) in
+    let less = left_less c.args.t.now cues c.args.placed.now k h c.told-placed c.requires.cues cue (has_at cues k h) c.requires.distinct (sym c.if-not-is_marked.ensures) in
     let room : length cues ≤ length c.loop-x.list = omega (arith, c.requires.room, ap length c.loop-x.invariant.0) in
     (omega (arith, c.decreases, c.requires.place, c.if-at-cues.false), (c.requires.distinct, (c.requires.cues, (omega (arith, less, c.requires.place), room))))
 
@@ -47,7 +47,7 @@ returns-then-extend t c =
     let rest = rest_of c.args.t.now cues (set table (get_or cues k 0 - 1) true) in
     let cue = All-get_or (λ n. is_cue n ≡ true) cues k 0 h c.requires.cues in
     let found : is_found rest ≡ true = sym c.if-extend.ensures.found in
-    let whole = rest_found c.args.t.now cues table k h c.told-placed c.requires.cues cue (has_at cues k h) (sym c.if-not-is-marked.ensures) (sym c.if-may-come.ensures) found c.loop-x.invariant.1 in
+    let whole = rest_found c.args.t.now cues table k h c.told-placed c.requires.cues cue (has_at cues k h) (sym c.if-not-is_marked.ensures) (sym c.if-may_come.ensures) found c.loop-x.invariant.1 in
     let room : c.args.at < length c.args.list.now = omega (arith, c.requires.room, c.requires.place, c.if-at-cues.false) in
     record {
       found = sym (ap is_found whole ∙ found_more x rest ∙ found);
@@ -63,18 +63,18 @@ loop-x-preserved t c =
     let k = c.loop-x.x-index in
     let h = c.loop-x-test.true in
     let inv = c.loop-x.invariant in
-    elim c.if-not-is-marked.branch [
-      | then-not-is-marked+then-may-come+else-extend w ↦
+    elim c.if-not-is_marked.branch [
+      | then-not-is_marked+then-may_come+else-extend w ↦
           let rest = rest_of c.args.t.now cues (set table (get_or cues k 0 - 1) true) in
           let cue = All-get_or (λ n. is_cue n ≡ true) cues k 0 h c.requires.cues in
           let none : is_found rest ≡ false = sym w.if-extend.ensures.found in (
             w.list-is ∙ w.if-extend.ensures.list ∙ laid_none (c.args.at + 1) rest c.loop-x.list none ∙ inv.0,
-            past_tried c.args.t.now cues table k h c.told-placed c.requires.cues cue (has_at cues k h) (sym w.if-not-is-marked.ensures) (sym w.if-may-come.ensures) none inv.1,
+            past_tried c.args.t.now cues table k h c.told-placed c.requires.cues cue (has_at cues k h) (sym w.if-not-is_marked.ensures) (sym w.if-may_come.ensures) none inv.1,
           )
-      | else-not-is-marked w ↦
-          elim w.else-not-is-marked.branch [
-            | else-not-is-marked-via-then-not-is-marked+else-may-come v ↦ (w.list-is ∙ inv.0, past_barred c.args.t.now cues table k h (sym v.if-not-is-marked.ensures) (sym v.if-may-come.ensures) inv.1)
-            | else-not-is-marked-via-else-not-is-marked v ↦ (w.list-is ∙ inv.0, past_placed c.args.t.now cues table k h (sym v.if-not-is-marked.ensures) inv.1)
+      | else-not-is_marked w ↦
+          elim w.else-not-is_marked.branch [
+            | else-not-is_marked-via-then-not-is_marked+else-may_come v ↦ (w.list-is ∙ inv.0, past_barred c.args.t.now cues table k h (sym v.if-not-is_marked.ensures) (sym v.if-may_come.ensures) inv.1)
+            | else-not-is_marked-via-else-not-is_marked v ↦ (w.list-is ∙ inv.0, past_placed c.args.t.now cues table k h (sym v.if-not-is_marked.ensures) inv.1)
           ]
     ]
 

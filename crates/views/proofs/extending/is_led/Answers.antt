@@ -6,11 +6,11 @@ use Rattle.views.specs.Shown.{left_of}
 use Rattle.views.specs.Tables.{ahead_in}
 use Rattle.views.proofs.Leaving.{left_found, left_other, left_past, left_itself}
 use Rattle.views.proofs.extending.is_led.Goals as goal
-use Rattle.views.proofs.extending.is_led.Goals.{else-i-x-via-then-i-x+then-not-is-marked+else-is-ahead, else-i-x-via-then-i-x+else-not-is-marked, else-i-x-via-else-i-x}
+use Rattle.views.proofs.extending.is_led.Goals.{else-i-x-via-then-i-x+then-not-is_marked+else-is_ahead, else-i-x-via-then-i-x+else-not-is_marked, else-i-x-via-else-i-x}
 
-pub returns-then-is-ahead : goal.returns-then-is-ahead
-returns-then-is-ahead c =
-    sym (sym c.loop-i.invariant ∙ left_found c.args.placed.now c.args.cues.now c.loop-i.i-index c.loop-i-test.true c.args.x (λ i. ahead_in c.args.t.now i c.args.x) c.if-i-x.true (sym c.if-not-is-marked.ensures) (sym c.if-is-ahead.ensures))
+pub returns-then-is_ahead : goal.returns-then-is_ahead
+returns-then-is_ahead c =
+    sym (sym c.loop-i.invariant ∙ left_found c.args.placed.now c.args.cues.now c.loop-i.i-index c.loop-i-test.true c.args.x (λ i. ahead_in c.args.t.now i c.args.x) c.if-i-x.true (sym c.if-not-is_marked.ensures) (sym c.if-is_ahead.ensures))
 
 pub loop-i-preserved : goal.loop-i-preserved
 loop-i-preserved c =
@@ -21,8 +21,8 @@ loop-i-preserved c =
     let x = c.args.x in
     let test = λ (i : ℕ). ahead_in c.args.t.now i x in
     elim c.else-i-x.branch [
-      | else-i-x-via-then-i-x+then-not-is-marked+else-is-ahead w ↦ left_other table cues k h x test w.if-i-x.true (sym w.if-not-is-marked.ensures) (sym w.if-is-ahead.ensures) ∙ c.loop-i.invariant
-      | else-i-x-via-then-i-x+else-not-is-marked w ↦ left_past table cues k h x test (sym w.if-not-is-marked.ensures) ∙ c.loop-i.invariant
+      | else-i-x-via-then-i-x+then-not-is_marked+else-is_ahead w ↦ left_other table cues k h x test w.if-i-x.true (sym w.if-not-is_marked.ensures) (sym w.if-is_ahead.ensures) ∙ c.loop-i.invariant
+      | else-i-x-via-then-i-x+else-not-is_marked w ↦ left_past table cues k h x test (sym w.if-not-is_marked.ensures) ∙ c.loop-i.invariant
       | else-i-x-via-else-i-x w ↦ left_itself table cues k h x test w.if-i-x.false ∙ c.loop-i.invariant
     ]
 
