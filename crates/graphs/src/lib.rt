@@ -56,7 +56,7 @@ impl Drop for Marks<'_> {
 
 // How many numbers the graph has.
 fn count<G: Graph>(graph: &G) -> usize
-    ensures { result ≡ length (among (numbers graph.now)) }
+    ensures { result ≡ length (among (G.numbers graph.now)) }
 {
     let mut n = 0usize;
     for m in 1..65u32 {
@@ -70,7 +70,7 @@ fn count<G: Graph>(graph: &G) -> usize
 // Whether the graph has `m` and it is not placed.
 fn waiting<G: Graph>(graph: &G, strip: &[u8], m: u32) -> bool
     requires { (64 ≤ length strip.now) × ((1 ≤ m) × (m ≤ 64)) }
-    ensures { result ≡ waits (numbers graph.now) strip.now m }
+    ensures { result ≡ waits (G.numbers graph.now) strip.now m }
 {
     let mark = strip[m as usize - 1];
     graph.has(m) && (mark == 0 || mark > 64)
@@ -79,7 +79,7 @@ fn waiting<G: Graph>(graph: &G, strip: &[u8], m: u32) -> bool
 // The smallest waiting number with an edge to `to`.
 fn before<G: Graph>(graph: &G, strip: &[u8], to: u32) -> Option<u32>
     requires { 64 ≤ length strip.now }
-    ensures { MatchOption result (Ready (waits (numbers graph.now) strip.now) (edges graph.now) to) (λ u. (1 ≤ u) × (u ≤ 64) × (waits (numbers graph.now) strip.now u ≡ true) × (edges graph.now u to ≡ true)) }
+    ensures { MatchOption result (Ready (waits (G.numbers graph.now) strip.now) (G.edges graph.now) to) (λ u. (1 ≤ u) × (u ≤ 64) × (waits (G.numbers graph.now) strip.now u ≡ true) × (G.edges graph.now u to ≡ true)) }
 {
     for m in 1..65u32 {
         if waiting(graph, strip, m) && graph.edge(m, to) {
@@ -92,7 +92,7 @@ fn before<G: Graph>(graph: &G, strip: &[u8], to: u32) -> Option<u32>
 // The smallest waiting number with no edge to it from a waiting one.
 fn pick<G: Graph>(graph: &G, strip: &[u8]) -> Option<u32>
     requires { 64 ≤ length strip.now }
-    ensures { MatchOption result (Stuck (waits (numbers graph.now) strip.now) (edges graph.now)) (Picked (waits (numbers graph.now) strip.now) (edges graph.now)) }
+    ensures { MatchOption result (Stuck (waits (G.numbers graph.now) strip.now) (G.edges graph.now)) (Picked (waits (G.numbers graph.now) strip.now) (G.edges graph.now)) }
 {
     for m in 1..65u32 {
         if waiting(graph, strip, m) && before(graph, strip, m).is_none() {
@@ -105,8 +105,8 @@ fn pick<G: Graph>(graph: &G, strip: &[u8]) -> Option<u32>
 // Marks each number that can be placed with its place, counted from 1.
 fn place<G: Graph>(graph: &G, strip: &mut [u8]) -> u8
     requires { (64 ≤ length strip.old) × (strip.old ≡ wiped strip.old) }
-    ensures done { Placing (numbers graph.now) (edges graph.now) strip.new result }
-    ensures stuck { Stuck (waits (numbers graph.now) strip.new) (edges graph.now) }
+    ensures done { Placing (G.numbers graph.now) (G.edges graph.now) strip.new result }
+    ensures stuck { Stuck (waits (G.numbers graph.now) strip.new) (G.edges graph.now) }
     ensures rest { drop 64 strip.new ≡ drop 64 strip.old }
 {
     let mut placed = 0u8;
@@ -127,10 +127,10 @@ struct Ring {
 // Walks back from `from` along waiting numbers until one comes again.
 fn walk<G: Graph>(graph: &G, strip: &mut [u8], from: u32) -> Ring
     requires in_bounds { (64 ≤ length strip.old) × ((1 ≤ from) × (from ≤ 64)) }
-    requires from_value { waits (numbers graph.now) strip.old from ≡ true }
+    requires from_value { waits (G.numbers graph.now) strip.old from ≡ true }
     requires by_index { (m : ℕ) → 1 ≤ m → m ≤ 64 → mark strip.old m ≤ 64 }
-    requires stuck { Stuck (waits (numbers graph.now) strip.old) (edges graph.now) }
-    ensures ring { Walked (numbers graph.now) (edges graph.now) strip.new result.base result.size }
+    requires stuck { Stuck (waits (G.numbers graph.now) strip.old) (G.edges graph.now) }
+    ensures ring { Walked (G.numbers graph.now) (G.edges graph.now) strip.new result.base result.size }
     ensures rest { drop 64 strip.new ≡ drop 64 strip.old }
 {
     let mut at = from;
@@ -166,7 +166,7 @@ fn write(list: &mut [u32], strip: &[u8], base: u8, size: u8)
 // The smallest waiting number.
 fn left<G: Graph>(graph: &G, strip: &[u8]) -> Option<u32>
     requires { 64 ≤ length strip.now }
-    ensures { MatchOption result ((m : ℕ) → 1 ≤ m → m ≤ 64 → waits (numbers graph.now) strip.now m ≡ false) (λ m. (1 ≤ m) × (m ≤ 64) × (waits (numbers graph.now) strip.now m ≡ true)) }
+    ensures { MatchOption result ((m : ℕ) → 1 ≤ m → m ≤ 64 → waits (G.numbers graph.now) strip.now m ≡ false) (λ m. (1 ≤ m) × (m ≤ 64) × (waits (G.numbers graph.now) strip.now m ≡ true)) }
 {
     for m in 1..65u32 {
         if waiting(graph, strip, m) {
@@ -178,8 +178,8 @@ fn left<G: Graph>(graph: &G, strip: &[u8]) -> Option<u32>
 
 // Fills the front of `list` with the first order, or else with a cycle, and leaves its marks on the strip.
 fn fill<G: Graph>(graph: &G, list: &mut [u32], strip: &mut [u8]) -> Found
-    requires { (64 ≤ length strip.old) × (length (among (numbers graph.now)) ≤ length list.old) }
-    ensures found { Finds (numbers graph.now) (edges graph.now) list.old list.new result }
+    requires { (64 ≤ length strip.old) × (length (among (G.numbers graph.now)) ≤ length list.old) }
+    ensures found { Finds (G.numbers graph.now) (G.edges graph.now) list.old list.new result }
     ensures rest { drop 64 strip.new ≡ drop 64 strip.old }
 {
     wipe(strip);
@@ -195,9 +195,9 @@ fn fill<G: Graph>(graph: &G, list: &mut [u32], strip: &mut [u8]) -> Found
 
 // The first order of the graph's numbers that follows every edge, or else a cycle, at the front of `list`.
 pub fn search<G: Graph>(graph: &G, list: &mut [u32], strip: &mut [u8]) -> Result<Found, Refusal>
-    ensures refuses { refusal_in result ≡ search_refusal (numbers graph.now) (length list.old) (length strip.old) }
+    ensures refuses { refusal_in result ≡ search_refusal (G.numbers graph.now) (length list.old) (length strip.old) }
     ensures strip { strip.new ≡ strip_after result strip.old }
-    ensures lists { Lists (numbers graph.now) (edges graph.now) list.old list.new result }
+    ensures lists { Lists (G.numbers graph.now) (G.edges graph.now) list.old list.new result }
 {
     if strip.len() < 64 {
         return Err(Refusal::StripShort);

@@ -23,10 +23,10 @@ returns-then-reads_uncommitted g c =
     let i = c.loop-i.i in
     let e = c.args.e.now in
     let r = c.index-seen-i.result in
-    let test = owes g.row.K-Item.alike e.cue seen in
+    let test = owes g.K.Item.alike e.cue seen in
     let front : i - 0 ≡ i = omega arith in
-    let from : reads_from g.row.K-Item.alike (λ j. not (committed seen j)) (take i seen) r ≡ true =
-    ap (λ (n : ℕ). reads_from g.row.K-Item.alike (λ j. not (committed seen j)) (take n seen) r) (sym front) ∙ sym c.if-reads_uncommitted.ensures in
+    let from : reads_from g.K.Item.alike (λ j. not (committed seen j)) (take i seen) r ≡ true =
+    ap (λ (n : ℕ). reads_from g.K.Item.alike (λ j. not (committed seen j)) (take n seen) r) (sym front) ∙ sym c.if-reads_uncommitted.ensures in
     let passes : test (take i seen) r ≡ true = and_from (eqb r.cue e.cue) _ (eq-eqb r.cue e.cue c.if-r-e.true) from in
     sym (and_from (is_commit e.act) (somewhere test [] seen) (ap is_commit c.in-Commit.is) (sym c.loop-i.invariant ∙ somewhere_yes test seen i r c.loop-i-test.true c.index-seen-i.is passes))
 
@@ -36,13 +36,13 @@ loop-i-preserved g c =
     let i = c.loop-i.i in
     let e = c.args.e.now in
     let r = c.index-seen-i.result in
-    let test = owes g.row.K-Item.alike e.cue seen in
+    let test = owes g.K.Item.alike e.cue seen in
     let front : i - 0 ≡ i = omega arith in
     let fails : test (take i seen) r ≡ false =
     elim c.else-r-e.branch [
       | else-r-e-via-then-r-e+else-reads_uncommitted y ↦
           and_right (eqb r.cue e.cue) _
-          (ap (λ (n : ℕ). reads_from g.row.K-Item.alike (λ j. not (committed seen j)) (take n seen) r) (sym front) ∙ sym y.if-reads_uncommitted.ensures)
+          (ap (λ (n : ℕ). reads_from g.K.Item.alike (λ j. not (committed seen j)) (take n seen) r) (sym front) ∙ sym y.if-reads_uncommitted.ensures)
       | else-r-e-via-else-r-e y ↦ and_left (eqb r.cue e.cue) _ (ne_eqb r.cue e.cue y.if-r-e.false)
     ] in
     somewhere_no test seen i r c.loop-i-test.true c.index-seen-i.is fails ∙ c.loop-i.invariant
@@ -51,5 +51,5 @@ pub returns : goal.returns
 returns g c =
     let seen = c.args.seen.now in
     let e = c.args.e.now in
-    let test = owes g.row.K-Item.alike e.cue seen in
+    let test = owes g.K.Item.alike e.cue seen in
     sym (and_right (is_commit e.act) (somewhere test [] seen) (sym c.loop-i.invariant ∙ somewhere_end test seen c.loop-i.i c.loop-i-test.false))

@@ -6,5 +6,5 @@ use Rattle.recovery.proofs.breaks_recoverable.Given as goal
 
 abbrev pub invariant-loop-i : goal.invariant-loop-i
 invariant-loop-i g l =
-    somewhere (λ before r. eqb r.cue l.e.cue && reads_from g.row.K-Item.alike (λ j. not (committed l.seen j)) before r) (take l.i l.seen) (drop l.i l.seen)
-    ≡ somewhere (λ before r. eqb r.cue l.e.cue && reads_from g.row.K-Item.alike (λ j. not (committed l.seen j)) before r) [] l.seen
+    somewhere (λ before r. eqb r.cue l.e.cue && reads_from g.K.Item.alike (λ j. not (committed l.seen j)) before r) (take l.i l.seen) (drop l.i l.seen)
+    ≡ somewhere (λ before r. eqb r.cue l.e.cue && reads_from g.K.Item.alike (λ j. not (committed l.seen j)) before r) [] l.seen

@@ -6,5 +6,5 @@ use Rattle.recovery.proofs.first_break.Given as goal
 
 abbrev pub invariant-loop-i : goal.invariant-loop-i
 invariant-loop-i g l =
-    first_from (breaks_of g.row.K-Item.alike l.rule) (l.i + 1) (take l.i l.entries) (drop l.i l.entries)
-    ≡ first_break (breaks_of g.row.K-Item.alike l.rule) l.entries
+    first_from (breaks_of g.K.Item.alike l.rule) (l.i + 1) (take l.i l.entries) (drop l.i l.entries)
+    ≡ first_break (breaks_of g.K.Item.alike l.rule) l.entries

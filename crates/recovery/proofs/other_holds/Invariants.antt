@@ -6,5 +6,5 @@ use Rattle.recovery.proofs.other_holds.Given as goal
 
 abbrev pub invariant-loop-w : goal.invariant-loop-w
 invariant-loop-w g l =
-    some (λ w. writes (g.row.K-Item.alike l.item) w.act && (not (eqb w.cue l.cue) && not (ended l.seen w.cue))) (drop l.w-index l.seen)
-    ≡ some (λ w. writes (g.row.K-Item.alike l.item) w.act && (not (eqb w.cue l.cue) && not (ended l.seen w.cue))) l.seen
+    some (λ w. writes (g.K.Item.alike l.item) w.act && (not (eqb w.cue l.cue) && not (ended l.seen w.cue))) (drop l.w-index l.seen)
+    ≡ some (λ w. writes (g.K.Item.alike l.item) w.act && (not (eqb w.cue l.cue) && not (ended l.seen w.cue))) l.seen

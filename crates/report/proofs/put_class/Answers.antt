@@ -6,4 +6,4 @@ use Rattle.report.proofs.put_class.Goals as goal
 
 pub overflow_cast-place : goal.overflow_cast-place
 overflow_cast-place g c =
-    omega (arith, c.place.ensures ∙ ap class_place c.class-class.ensures, place_within g.row.K-Item.alike (accepted c.args.book.now), c.requires.few)
+    omega (arith, c.place.ensures ∙ ap class_place c.class-class.ensures, place_within g.K.Item.alike (accepted c.args.book.now), c.requires.few)

@@ -6,13 +6,13 @@ use Rattle.runs.proofs.order.Goals as goal
 
 pub returns-in-Order : goal.returns-in-Order
 returns-in-Order g c =
-    let alike = g.row.K-Item.alike in
+    let alike = g.K.Item.alike in
     let same : Sameness alike = record { reflexive = g.met.K.Item.reflexive; symmetric = g.met.K.Item.symmetric; transitive = g.met.K.Item.transitive } in
     order_shown alike (accepted c.args.book.now) (replicate 64 0) c.order.new.list c.in-Order.count same c.in-Ok.found c.in-Ok.ensures.lists c.in-Ok.ensures.view c.in-Order.is
 
 pub returns-in-Cycle : goal.returns-in-Cycle
 returns-in-Cycle g c =
-    cycle_shown g.row.K-Item.alike (accepted c.args.book.now) (replicate 64 0) c.order.new.list c.in-Cycle.count c.in-Ok.found c.in-Ok.ensures.lists c.in-Cycle.is
+    cycle_shown g.K.Item.alike (accepted c.args.book.now) (replicate 64 0) c.order.new.list c.in-Cycle.count c.in-Ok.found c.in-Ok.ensures.lists c.in-Cycle.is
 
 pub returns-in-Err : goal.returns-in-Err
 returns-in-Err g c = absurd (order_taken (accepted c.args.book.now) c.in-Err.refusal c.in-Err.ensures.refuses)

@@ -17,7 +17,7 @@ loop-k-preserved g c =
       | in_default w ↦ w.given-is ∙ sym (counted_other a given w.in_default.not-Ticket)
     ] in
     let room_left : c.loop-k.k < length c.loop-k.answers = omega (arith, c.loop-k-test.true, c.if-answers-calls.false, c.loop-k.auto.answers) in
-    going_more g.row.K-Item.alike g.row.K-Item.parsed (room c.new-book.result) c.args.calls.now c.args.answers.now c.args.tickets.now c.new-book.result
+    going_more g.K.Item.alike g.K.Item.parsed (room c.new-book.result) c.args.calls.now c.args.answers.now c.args.tickets.now c.new-book.result
     c.loop-k.answers c.loop-k.tickets c.loop-k.book given c.loop-k.k c.loop-k.invariant
     c.index-calls-k.result c.loop-k-test.true room_left c.index-calls-k.is c.perform_one-answer.new.tickets c.perform_one-answer.new.book a c.perform_one-answer.ensures.done c.perform_one-answer.ensures.lays c.match-answer.given counts
 
@@ -28,10 +28,10 @@ returns g c =
     let memory = c.memory·1.given in
     let held : memory.0 ≡ c.loop-k.book.memory.now = memory.1.1 (sym (inv.lays.lender ∙ c.new-book.ensures.lender)) in
     let places : room c.new-book.result ≡ min (length c.args.memory.now) 4096 = ap (λ (ms : List (Entry g.row.K.Denot)). min (length ms) 4096) c.new-book.ensures.memory in
-    let done = going_all g.row.K-Item.alike g.row.K-Item.parsed (room c.new-book.result) c.args.calls.now c.args.answers.now c.args.tickets.now c.new-book.result
+    let done = going_all g.K.Item.alike g.K.Item.parsed (room c.new-book.result) c.args.calls.now c.args.answers.now c.args.tickets.now c.new-book.result
     c.loop-k.answers c.loop-k.tickets c.loop-k.book c.loop-k.given c.loop-k.k inv all c.args.memory.now c.new-book.ensures.memory in
     record {
       wants = wanted_none (length c.args.calls.now) (length c.args.answers.now) (length c.args.tickets.now) c.if-answers-calls.false c.if-tickets-calls.false;
-      runs = subst (λ (ms : List (Entry g.row.K.Denot)). Performed g.row.K-Item.alike g.row.K-Item.parsed (min (length c.args.memory.now) 4096) c.args.calls.now c.args.answers.now c.loop-k.answers c.args.tickets.now c.loop-k.tickets c.args.memory.now ms) (sym held)
-          (subst (λ (n : ℕ). Performed g.row.K-Item.alike g.row.K-Item.parsed n c.args.calls.now c.args.answers.now c.loop-k.answers c.args.tickets.now c.loop-k.tickets c.args.memory.now c.loop-k.book.memory.now) places done);
+      runs = subst (λ (ms : List (Entry g.row.K.Denot)). Performed g.K.Item.alike g.K.Item.parsed (min (length c.args.memory.now) 4096) c.args.calls.now c.args.answers.now c.loop-k.answers c.args.tickets.now c.loop-k.tickets c.args.memory.now ms) (sym held)
+          (subst (λ (n : ℕ). Performed g.K.Item.alike g.K.Item.parsed n c.args.calls.now c.args.answers.now c.loop-k.answers c.args.tickets.now c.loop-k.tickets c.args.memory.now c.loop-k.book.memory.now) places done);
     }

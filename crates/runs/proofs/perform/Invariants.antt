@@ -4,4 +4,4 @@ use Rattle.runs.proofs.perform.Given as goal
 
 abbrev pub invariant-loop-k : goal.invariant-loop-k
 invariant-loop-k g l =
-    Going g.row.K-Item.alike g.row.K-Item.parsed (room l.initial.book) l.calls l.initial.answers l.answers l.initial.tickets l.tickets l.initial.book l.book l.given l.k
+    Going g.K.Item.alike g.K.Item.parsed (room l.initial.book) l.calls l.initial.answers l.answers l.initial.tickets l.tickets l.initial.book l.book l.given l.k

@@ -14,8 +14,8 @@ use Rattle.runs.proofs.perform_one.Goals as goal
 
 pub returns-then-not-is_given : goal.returns-then-not-is_given
 returns-then-not-is_given g c =
-    let alike = g.row.K-Item.alike in
-    let parsed = g.row.K-Item.parsed in
+    let alike = g.K.Item.alike in
+    let parsed = g.K.Item.parsed in
     let b = c.args.book.now in
     let es = accepted b in
     let cells = c.args.tickets.now in
@@ -27,8 +27,8 @@ returns-then-not-is_given g c =
 
 pub returns-then-not-is_given-2 : goal.returns-then-not-is_given-2
 returns-then-not-is_given-2 g c =
-    let alike = g.row.K-Item.alike in
-    let parsed = g.row.K-Item.parsed in
+    let alike = g.K.Item.alike in
+    let parsed = g.K.Item.parsed in
     let b = c.args.book.now in
     let es = accepted b in
     let cells = c.args.tickets.now in
@@ -40,8 +40,8 @@ returns-then-not-is_given-2 g c =
 
 pub returns-in-Enter : goal.returns-in-Enter
 returns-in-Enter g c =
-    let alike = g.row.K-Item.alike in
-    let parsed = g.row.K-Item.parsed in
+    let alike = g.K.Item.alike in
+    let parsed = g.K.Item.parsed in
     let b = c.args.book.now in
     let es = accepted b in
     let cells = c.args.tickets.now in
@@ -53,8 +53,8 @@ returns-in-Enter g c =
 
 pub returns-in-Ok : goal.returns-in-Ok
 returns-in-Ok g c =
-    let alike = g.row.K-Item.alike in
-    let parsed = g.row.K-Item.parsed in
+    let alike = g.K.Item.alike in
+    let parsed = g.K.Item.parsed in
     let b = c.args.book.now in
     let es = accepted b in
     let cells = c.args.tickets.now in
@@ -66,8 +66,8 @@ returns-in-Ok g c =
 
 pub returns-in-Err : goal.returns-in-Err
 returns-in-Err g c =
-    let alike = g.row.K-Item.alike in
-    let parsed = g.row.K-Item.parsed in
+    let alike = g.K.Item.alike in
+    let parsed = g.K.Item.parsed in
     let b = c.args.book.now in
     let es = accepted b in
     let cells = c.args.tickets.now in
@@ -79,8 +79,8 @@ returns-in-Err g c =
 
 pub returns-in-Ok-begin : goal.returns-in-Ok-begin
 returns-in-Ok-begin g c =
-    let alike = g.row.K-Item.alike in
-    let parsed = g.row.K-Item.parsed in
+    let alike = g.K.Item.alike in
+    let parsed = g.K.Item.parsed in
     let b = c.args.book.now in
     let es = accepted b in
     let cells = c.args.tickets.now in
@@ -92,8 +92,8 @@ returns-in-Ok-begin g c =
 
 pub returns-in-Err-begin : goal.returns-in-Err-begin
 returns-in-Err-begin g c =
-    let alike = g.row.K-Item.alike in
-    let parsed = g.row.K-Item.parsed in
+    let alike = g.K.Item.alike in
+    let parsed = g.K.Item.parsed in
     let b = c.args.book.now in
     let es = accepted b in
     let cells = c.args.tickets.now in
@@ -105,8 +105,8 @@ returns-in-Err-begin g c =
 
 pub returns-in-Some : goal.returns-in-Some
 returns-in-Some g c =
-    let alike = g.row.K-Item.alike in
-    let parsed = g.row.K-Item.parsed in
+    let alike = g.K.Item.alike in
+    let parsed = g.K.Item.parsed in
     let b = c.args.book.now in
     let es = accepted b in
     let cells = c.args.tickets.now in
@@ -118,8 +118,8 @@ returns-in-Some g c =
 
 pub returns-in-None : goal.returns-in-None
 returns-in-None g c =
-    let alike = g.row.K-Item.alike in
-    let parsed = g.row.K-Item.parsed in
+    let alike = g.K.Item.alike in
+    let parsed = g.K.Item.parsed in
     let b = c.args.book.now in
     let es = accepted b in
     let cells = c.args.tickets.now in
@@ -131,8 +131,8 @@ returns-in-None g c =
 
 pub returns-in-Ok-end : goal.returns-in-Ok-end
 returns-in-Ok-end g c =
-    let alike = g.row.K-Item.alike in
-    let parsed = g.row.K-Item.parsed in
+    let alike = g.K.Item.alike in
+    let parsed = g.K.Item.parsed in
     let b = c.args.book.now in
     let es = accepted b in
     let cells = c.args.tickets.now in
@@ -152,8 +152,8 @@ returns-in-Ok-end g c =
 
 pub returns-in-Err-end : goal.returns-in-Err-end
 returns-in-Err-end g c =
-    let alike = g.row.K-Item.alike in
-    let parsed = g.row.K-Item.parsed in
+    let alike = g.K.Item.alike in
+    let parsed = g.K.Item.parsed in
     let b = c.args.book.now in
     let es = accepted b in
     let cells = c.args.tickets.now in
@@ -174,8 +174,8 @@ returns-in-Err-end g c =
 
 pub returns-in-None-replace : goal.returns-in-None-replace
 returns-in-None-replace g c =
-    let alike = g.row.K-Item.alike in
-    let parsed = g.row.K-Item.parsed in
+    let alike = g.K.Item.alike in
+    let parsed = g.K.Item.parsed in
     let b = c.args.book.now in
     let es = accepted b in
     let cells = c.args.tickets.now in
@@ -190,8 +190,8 @@ returns-in-None-replace g c =
 
 pub returns-in-Class : goal.returns-in-Class
 returns-in-Class g c =
-    let alike = g.row.K-Item.alike in
-    let parsed = g.row.K-Item.parsed in
+    let alike = g.K.Item.alike in
+    let parsed = g.K.Item.parsed in
     let b = c.args.book.now in
     let es = accepted b in
     let cells = c.args.tickets.now in
@@ -203,8 +203,8 @@ returns-in-Class g c =
 
 pub returns-in-Order : goal.returns-in-Order
 returns-in-Order g c =
-    let alike = g.row.K-Item.alike in
-    let parsed = g.row.K-Item.parsed in
+    let alike = g.K.Item.alike in
+    let parsed = g.K.Item.parsed in
     let b = c.args.book.now in
     let es = accepted b in
     let cells = c.args.tickets.now in
@@ -216,8 +216,8 @@ returns-in-Order g c =
 
 pub returns-in-Views : goal.returns-in-Views
 returns-in-Views g c =
-    let alike = g.row.K-Item.alike in
-    let parsed = g.row.K-Item.parsed in
+    let alike = g.K.Item.alike in
+    let parsed = g.K.Item.parsed in
     let b = c.args.book.now in
     let es = accepted b in
     let cells = c.args.tickets.now in
@@ -229,8 +229,8 @@ returns-in-Views g c =
 
 pub returns-in-Why : goal.returns-in-Why
 returns-in-Why g c =
-    let alike = g.row.K-Item.alike in
-    let parsed = g.row.K-Item.parsed in
+    let alike = g.K.Item.alike in
+    let parsed = g.K.Item.parsed in
     let b = c.args.book.now in
     let es = accepted b in
     let cells = c.args.tickets.now in

@@ -6,12 +6,12 @@ use Rattle.runs.proofs.views.Goals as goal
 
 pub returns-in-Some : goal.returns-in-Some
 returns-in-Some g c =
-    let alike = g.row.K-Item.alike in
+    let alike = g.K.Item.alike in
     let same : Sameness alike = record { reflexive = g.met.K.Item.reflexive; symmetric = g.met.K.Item.symmetric; transitive = g.met.K.Item.transitive } in
     views_shown alike same (accepted c.args.book.now) 64 (replicate 64 0) c.views.new.list c.in-Some.count c.in-Ok.order c.in-Ok.ensures.answer c.in-Some.is c.in-Ok.ensures.list
 
 pub returns-in-None : goal.returns-in-None
 returns-in-None g c =
-    let alike = g.row.K-Item.alike in
+    let alike = g.K.Item.alike in
     let same : Sameness alike = record { reflexive = g.met.K.Item.reflexive; symmetric = g.met.K.Item.symmetric; transitive = g.met.K.Item.transitive } in
     none_shown alike same (accepted c.args.book.now) 64 c.in-Ok.order c.in-Ok.ensures.answer c.in-None.is

@@ -6,7 +6,7 @@ use Rattle.serial.proofs.order_of.Goals as goal
 
 pub returns : goal.returns
 returns g c =
-    let alike = g.row.K-Item.alike in
+    let alike = g.K.Item.alike in
     let es = c.args.entries.now in
     let graph = c.conflict_graph-graph.result in
     let draws = c.conflict_graph-graph.ensures in

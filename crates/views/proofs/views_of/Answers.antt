@@ -13,16 +13,16 @@ returns-then-members-gt-MOST g c =
     let es = c.args.entries.now in
     let list = c.args.list.now in
     let count = listed_count es c.committed_cues-cues.result c.committed_cues-cues.ensures c.members_of-members.result c.members_of-members.ensures in
-    let refused = many_refused g.row.K-Item.alike es list (omega (arith, count, c.if-members-gt-MOST.true)) in
-    record { answer = refused_answer g.row.K-Item.alike es list ManyCues refused; list = refused_list g.row.K-Item.alike es list ManyCues refused }
+    let refused = many_refused g.K.Item.alike es list (omega (arith, count, c.if-members-gt-MOST.true)) in
+    record { answer = refused_answer g.K.Item.alike es list ManyCues refused; list = refused_list g.K.Item.alike es list ManyCues refused }
 
 pub returns-then-list-members : goal.returns-then-list-members
 returns-then-list-members g c =
     let es = c.args.entries.now in
     let list = c.args.list.now in
     let count = listed_count es c.committed_cues-cues.result c.committed_cues-cues.ensures c.members_of-members.result c.members_of-members.ensures in
-    let refused = short_refused g.row.K-Item.alike es list (omega (arith, count, c.if-members-gt-MOST.false)) (omega (arith, count, c.if-list-members.true)) in
-    record { answer = refused_answer g.row.K-Item.alike es list ListShort refused; list = refused_list g.row.K-Item.alike es list ListShort refused }
+    let refused = short_refused g.K.Item.alike es list (omega (arith, count, c.if-members-gt-MOST.false)) (omega (arith, count, c.if-list-members.true)) in
+    record { answer = refused_answer g.K.Item.alike es list ListShort refused; list = refused_list g.K.Item.alike es list ListShort refused }
 
 pub constraints_of-constraints-requires : goal.constraints_of-constraints-requires
 constraints_of-constraints-requires g c =
@@ -30,7 +30,7 @@ constraints_of-constraints-requires g c =
 
 pub returns-then-constraints : goal.returns-then-constraints
 returns-then-constraints g c =
-    let alike = g.row.K-Item.alike in
+    let alike = g.K.Item.alike in
     let es = c.args.entries.now in
     let list = c.args.list.now in
     let sameness : Sameness alike = record { reflexive = g.met.K.Item.reflexive; symmetric = g.met.K.Item.symmetric; transitive = g.met.K.Item.transitive } in
@@ -50,7 +50,7 @@ extend-requires g c =
 
 pub returns-then-extend : goal.returns-then-extend
 returns-then-extend g c =
-    let alike = g.row.K-Item.alike in
+    let alike = g.K.Item.alike in
     let es = c.args.entries.now in
     let list = c.args.list.now in
     let m = c.members_of-members.result in
@@ -68,7 +68,7 @@ returns-then-extend g c =
 
 pub returns-else-extend : goal.returns-else-extend
 returns-else-extend g c =
-    let alike = g.row.K-Item.alike in
+    let alike = g.K.Item.alike in
     let es = c.args.entries.now in
     let list = c.args.list.now in
     let m = c.members_of-members.result in

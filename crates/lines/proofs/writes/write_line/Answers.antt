@@ -9,7 +9,7 @@ pub returns : goal.returns
 returns g c =
     let e = c.args.entry.now in
     let start = c.args.space.now in
-    let text = g.row.K-Item.text in
+    let text = g.K.Item.text in
     let cue = c.write_number.new.field in
     let item = c.item_of.result in
     let four : length cue ≡ 4 = ap length c.write_number.ensures ∙ length_justified 4 (decimal e.cue) in
@@ -21,6 +21,6 @@ returns g c =
       answer = search rules;
       space = line;
       back = λ _.
-          subst (λ (bs : List ℕ). ReadsBack g.row.K-Item.alike g.row.K-Item.parsed bs e) (sym line)
-          (reads_back g.row.K-Item.alike text g.row.K-Item.parsed g.met.K.Item.eight g.met.K.Item.back e (sym c.if-not-is_cue.ensures) (drop 16 start));
+          subst (λ (bs : List ℕ). ReadsBack g.K.Item.alike g.K.Item.parsed bs e) (sym line)
+          (reads_back g.K.Item.alike text g.K.Item.parsed g.met.K.Item.eight g.met.K.Item.back e (sym c.if-not-is_cue.ensures) (drop 16 start));
     }

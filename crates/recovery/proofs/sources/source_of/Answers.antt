@@ -15,14 +15,14 @@ abbrev holds : {K : Type 0} → (K → K → Bool) → K → List (Entry K) → 
 holds alike k seen p = writes (alike k) p.1.act && not (aborted seen p.1.cue)
 
 pub loop-i-init : goal.loop-i-init
-loop-i-init g c = last_all (holds g.row.K-Item.alike c.args.item c.args.seen.now) c.args.seen.now
+loop-i-init g c = last_all (holds g.K.Item.alike c.args.item c.args.seen.now) c.args.seen.now
 
 pub returns-then-writes_item : goal.returns-then-writes_item
 returns-then-writes_item g c =
     let seen = c.args.seen.now in
     let i = c.loop-i.i in
     let w = c.index-seen-i.result in
-    let test = holds g.row.K-Item.alike c.args.item seen in
+    let test = holds g.K.Item.alike c.args.item seen in
     let place : i - 1 + 1 ≡ i = omega arith in
     let passes : test (i, w) ≡ true = and_from _ _ (sym c.if-writes_item.ensures) (not_from_false _ (sym c.if-not-aborted_in.ensures)) in
     let found = last_before test seen i w c.loop-i-test.true c.loop-i.auto.i c.index-seen-i.is ∙ cond-true (test (i, w)) (Some (i, w)) _ passes in
@@ -33,7 +33,7 @@ loop-i-preserved g c =
     let seen = c.args.seen.now in
     let i = c.loop-i.i in
     let w = c.index-seen-i.result in
-    let test = holds g.row.K-Item.alike c.args.item seen in
+    let test = holds g.K.Item.alike c.args.item seen in
     let fails : test (i, w) ≡ false =
     elim c.else-not-aborted_in.branch [
       | else-not-aborted_in-via-then-not-aborted_in+else-writes_item y ↦ and_left _ _ (sym y.if-writes_item.ensures)
@@ -44,5 +44,5 @@ loop-i-preserved g c =
 pub returns : goal.returns
 returns g c =
     let none : c.loop-i.i ≡ 0 = omega arith in
-    let test = holds g.row.K-Item.alike c.args.item c.args.seen.now in
+    let test = holds g.K.Item.alike c.args.item c.args.seen.now in
     ap place_and_cue (sym (ap (λ (n : ℕ). last_where test (placed 1 (take n c.args.seen.now))) none) ∙ c.loop-i.invariant)

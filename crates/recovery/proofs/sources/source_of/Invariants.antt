@@ -7,5 +7,5 @@ use Rattle.recovery.proofs.sources.source_of.Given as goal
 
 abbrev pub invariant-loop-i : goal.invariant-loop-i
 invariant-loop-i g l =
-    last_where (λ p. writes (g.row.K-Item.alike l.item) p.1.act && not (aborted l.seen p.1.cue)) (placed 1 (take l.i l.seen))
-    ≡ source g.row.K-Item.alike l.seen l.item
+    last_where (λ p. writes (g.K.Item.alike l.item) p.1.act && not (aborted l.seen p.1.cue)) (placed 1 (take l.i l.seen))
+    ≡ source g.K.Item.alike l.seen l.item

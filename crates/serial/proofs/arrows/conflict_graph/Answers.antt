@@ -7,11 +7,11 @@ use Rattle.serial.proofs.arrows.conflict_graph.Goals as goal
 use Rattle.serial.proofs.arrows.conflict_graph.Goals.{then-is_marked, else-is_marked}
 
 pub loop-p-init : goal.loop-p-init
-loop-p-init g c = (refl, drew_none g.row.K-Item.alike c.committed_cues-cues.result c.args.entries.now)
+loop-p-init g c = (refl, drew_none g.K.Item.alike c.committed_cues-cues.result c.args.entries.now)
 
 pub loop-p-preserved : goal.loop-p-preserved
 loop-p-preserved g c =
-    let alike = g.row.K-Item.alike in
+    let alike = g.K.Item.alike in
     let cues = c.committed_cues-cues.result in
     let es = c.args.entries.now in
     let p = c.loop-p.p in
@@ -38,7 +38,7 @@ loop-p-preserved g c =
 
 pub returns : goal.returns
 returns g c =
-    let alike = g.row.K-Item.alike in
+    let alike = g.K.Item.alike in
     let cues = c.committed_cues-cues.result in
     let es = c.args.entries.now in
     record {

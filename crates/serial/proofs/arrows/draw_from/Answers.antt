@@ -7,7 +7,7 @@ use Rattle.serial.proofs.arrows.draw_from.Goals.{then-is_marked+then-not-edges-a
 
 pub loop-y-preserved : goal.loop-y-preserved
 loop-y-preserved g c =
-    let alike = g.row.K-Item.alike in
+    let alike = g.K.Item.alike in
     let cues = c.args.cues.now in
     let x = c.args.x.now in
     let y = c.y-item.result in
@@ -37,4 +37,4 @@ pub returns : goal.returns
 returns g c =
     let later = c.args.later.now in
     let q = c.loop-y.y-index in
-    drawing_all g.row.K-Item.alike c.args.cues.now later c.args.x.now q c.args.edges.now c.loop-y.edges (drop_all q later (omega arith)) c.loop-y.invariant.1
+    drawing_all g.K.Item.alike c.args.cues.now later c.args.x.now q c.args.edges.now c.loop-y.edges (drop_all q later (omega arith)) c.loop-y.invariant.1

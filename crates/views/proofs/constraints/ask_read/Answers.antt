@@ -9,12 +9,12 @@ use Rattle.views.proofs.constraints.ask_read.Goals.{then-is_marked, then-is_mark
 
 pub returns-in-None : goal.returns-in-None
 returns-in-None g c =
-    read_first g.row.K-Item.alike (marked c.args.cues.now) c.args.item c.args.t.now c.requires.ranked c.args.cue c.requires.cue c.args.before.now c.args.after.now c.writers_of-earlier.result.last c.writers_of-earlier.ensures.last
+    read_first g.K.Item.alike (marked c.args.cues.now) c.args.item c.args.t.now c.requires.ranked c.args.cue c.requires.cue c.args.before.now c.args.after.now c.writers_of-earlier.result.last c.writers_of-earlier.ensures.last
     c.writers_of-later.result.cues c.put_first.new.t c.writers_of-later.ensures.marks c.put_first.ensures c.in-None.is
 
 pub returns-after-is_marked : goal.returns-after-is_marked
 returns-after-is_marked g c =
-    let alike = g.row.K-Item.alike in
+    let alike = g.K.Item.alike in
     let cues = c.args.cues.now in
     let k = c.args.item in
     let i = c.args.cue in
@@ -42,5 +42,5 @@ returns-after-is_marked g c =
 
 pub returns-else-source-cue : goal.returns-else-source-cue
 returns-else-source-cue g c =
-    read_own g.row.K-Item.alike (marked c.args.cues.now) c.args.item c.args.t.now c.requires.ranked c.args.cue c.requires.cue c.args.before.now c.args.after.now c.writers_of-earlier.result.last c.writers_of-earlier.ensures.last
+    read_own g.K.Item.alike (marked c.args.cues.now) c.args.item c.args.t.now c.requires.ranked c.args.cue c.requires.cue c.args.before.now c.args.after.now c.writers_of-earlier.result.last c.writers_of-earlier.ensures.last
     c.in-Some.source c.in-Some.is c.if-source-cue.false

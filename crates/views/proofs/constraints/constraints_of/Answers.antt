@@ -17,11 +17,11 @@ ask-requires g c =
     }
 
 pub loop-p-init : goal.loop-p-init
-loop-p-init g c = gathered_none g.row.K-Item.alike c.args.entries.now (marked c.args.cues.now) c.args.ranks.now
+loop-p-init g c = gathered_none g.K.Item.alike c.args.entries.now (marked c.args.cues.now) c.args.ranks.now
 
 pub loop-p-preserved : goal.loop-p-preserved
 loop-p-preserved g c =
-    let alike = g.row.K-Item.alike in
+    let alike = g.K.Item.alike in
     let es = c.args.entries.now in
     let cues = c.args.cues.now in
     let p = c.loop-p.p in
@@ -42,5 +42,5 @@ loop-p-preserved g c =
 
 pub returns : goal.returns
 returns g c =
-    gathered_all g.row.K-Item.alike c.args.entries.now (marked c.args.cues.now) c.args.ranks.now c.loop-p.p c.loop-p.t
+    gathered_all g.K.Item.alike c.args.entries.now (marked c.args.cues.now) c.args.ranks.now c.loop-p.p c.loop-p.t
     (drop_all c.loop-p.p c.args.entries.now c.loop-p-test.false) c.requires.cues c.loop-p.invariant

@@ -9,11 +9,11 @@ use Rattle.views.proofs.constraints.writers_of.Goals as goal
 use Rattle.views.proofs.constraints.writers_of.Goals.{then-is_marked+then-writes_item, else-is_marked, else-is_marked-via-then-is_marked+else-writes_item, else-is_marked-via-else-is_marked}
 
 pub loop-w-init : goal.loop-w-init
-loop-w-init g c = found_none g.row.K-Item.alike (marked c.args.cues.now) c.args.item c.args.part.now
+loop-w-init g c = found_none g.K.Item.alike (marked c.args.cues.now) c.args.item c.args.part.now
 
 pub loop-w-preserved : goal.loop-w-preserved
 loop-w-preserved g c =
-    let alike = g.row.K-Item.alike in
+    let alike = g.K.Item.alike in
     let cues = c.args.cues.now in
     let k = c.args.item in
     let ws = c.args.part.now in
@@ -43,7 +43,7 @@ loop-w-preserved g c =
 
 pub returns : goal.returns
 returns g c =
-    let alike = g.row.K-Item.alike in
+    let alike = g.K.Item.alike in
     let cues = c.args.cues.now in
     record {
       marks = found_marks alike (marked cues) c.args.item c.args.part.now c.loop-w.w-index c.loop-w.found c.loop-w.last c.loop-w.invariant c.loop-w-test.false;
