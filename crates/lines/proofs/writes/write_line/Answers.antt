@@ -15,8 +15,8 @@ returns g c =
     let four : length cue ≡ 4 = ap length c.write_number.ensures ∙ length_justified 4 (decimal e.cue) in
     let eight : length item ≡ 8 = ap length c.item_of.ensures ∙ (item_eight text g.met.K.Item.eight e.act).eight in
     let line : c.put-4.new.space ≡ line_of text e ++ drop 16 start =
-    line_put cue item start c.put.new.space c.put-2.new.space c.put-3.new.space c.put-4.new.space c.letter_of_lem.result four eight c.put.ensures c.put-2.ensures c.put-3.ensures c.put-4.ensures
-    ∙ (λ i. (c.write_number.ensures i ++ (32 ∷ c.letter_of_lem.ensures i ∷ 32 ∷ c.item_of.ensures i) ++ 10 ∷ []) ++ drop 16 start) in
+    line_put cue item start c.put.new.space c.put-2.new.space c.put-3.new.space c.put-4.new.space c.letter_of.result four eight c.put.ensures c.put-2.ensures c.put-3.ensures c.put-4.ensures
+    ∙ (λ i. (c.write_number.ensures i ++ (32 ∷ c.letter_of.ensures i ∷ 32 ∷ c.item_of.ensures i) ++ 10 ∷ []) ++ drop 16 start) in
     record {
       answer = search rules;
       space = line;
