@@ -28,11 +28,11 @@ loop-w-preserved g c =
     elim c.if-is_marked.branch [
       | then-is_marked+then-writes_item v ↦
           let m : marked cues w.cue ≡ true = sym {b = marked cues w.cue} v.if-is_marked.ensures in
-          same (set found (w.cue - 1) true) (Some w.cue) v.found_is v.last_is
+          same (set found (w.cue - 1) true) (Some w.cue) v.found-is v.last-is
           (found_more alike (marked cues) k ws i found last c.loop-w.invariant w c.loop-w-test.true c.w-item.is (marked_cue cues w.cue m)
           (and_from (marked cues w.cue) (writes (alike k) w.act) m (sym {b = writes (alike k) w.act} v.if-writes_item.ensures)))
       | else-is_marked v ↦
-          same found last v.found_is v.last_is
+          same found last v.found-is v.last-is
           (elim v.else-is_marked.branch [
             | else-is_marked-via-then-is_marked+else-writes_item u ↦
                 past (and_right (marked cues w.cue) (writes (alike k) w.act) (sym {b = writes (alike k) w.act} u.if-writes_item.ensures))
