@@ -23,13 +23,13 @@ returns-in-None g c =
     let next = next_end g.K.Item.parsed (room self) (accepted self) c.args.line.now (sym c.read_line.ensures ∙ c.in_ok-read_line.was ∙ ap Ok c.in-None.is) in
     record { answer = sym (ap told next); grows = sym (ap (added (accepted self)) next); lays = lays_none self }
 
-pub returns-in_err-enter : goal.returns-in_err-enter
-returns-in_err-enter g c =
+pub returns-in_err-enter-in-Some : goal.returns-in_err-enter-in-Some
+returns-in_err-enter-in-Some g c =
     let self = c.args.self.now in
-    let p = err_from_is_err_and c.from_residual-in_err-enter.result c.from_residual-in_err-enter.ensures.1 in
-    let was = c.in_err-enter.was in
+    let p = err_from_is_err_and c.from_residual-in_err-enter-in-Some.result c.from_residual-in_err-enter-in-Some.ensures.1 in
+    let was = c.in_err-enter-in-Some.was in
     let next =
-    next_book g.K.Item.parsed (room self) (accepted self) c.args.line.now c.in-Some.entry (Err c.in_err-enter.field-0.0)
+    next_book g.K.Item.parsed (room self) (accepted self) c.args.line.now c.in-Some.entry (Err c.in_err-enter-in-Some.field-0.0)
     (sym c.read_line.ensures ∙ c.in_ok-read_line.was ∙ ap Ok c.in-Some.is)
     (sym c.enter.ensures.answer ∙ was) in
     record {
@@ -38,12 +38,12 @@ returns-in_err-enter g c =
       lays = c.enter.ensures.lays;
     }
 
-pub returns-in_ok-enter : goal.returns-in_ok-enter
-returns-in_ok-enter g c =
+pub returns-in_ok-enter-in-Some : goal.returns-in_ok-enter-in-Some
+returns-in_ok-enter-in-Some g c =
     let self = c.args.self.now in
-    let was = c.in_ok-enter.was in
+    let was = c.in_ok-enter-in-Some.was in
     let next =
-    next_book g.K.Item.parsed (room self) (accepted self) c.args.line.now c.in-Some.entry (Ok c.in_ok-enter.field-0)
+    next_book g.K.Item.parsed (room self) (accepted self) c.args.line.now c.in-Some.entry (Ok c.in_ok-enter-in-Some.field-0)
     (sym c.read_line.ensures ∙ c.in_ok-read_line.was ∙ ap Ok c.in-Some.is)
     (sym c.enter.ensures.answer ∙ was) in
     record {
