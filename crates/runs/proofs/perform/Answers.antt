@@ -25,7 +25,7 @@ pub returns : goal.returns
 returns g c =
     let inv = c.loop-k.invariant in
     let all : c.loop-k.k ≡ length c.args.calls.now = omega (arith, c.loop-k-test.false, c.loop-k.auto.k-end) in
-    let memory = c.memory·1.given in
+    let memory = c.memory-1.given in
     let held : memory.0 ≡ c.loop-k.book.memory.now = memory.1.1 (sym (inv.lays.lender ∙ c.new-book.ensures.lender)) in
     let places : room c.new-book.result ≡ min (length c.args.memory.now) 4096 = ap (λ (ms : List (Entry g.row.K.Denot)). min (length ms) 4096) c.new-book.ensures.memory in
     let done = going_all g.K.Item.alike g.K.Item.parsed (room c.new-book.result) c.args.calls.now c.args.answers.now c.args.tickets.now c.new-book.result
