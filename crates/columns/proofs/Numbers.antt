@@ -3,7 +3,7 @@ use Rattle.std.proofs.Common.{◌≡◌, ℕ, suc, ◌+◌, ◌-◌, ◌*◌, �
 use Rattle.std.proofs.lemmas.Str.Parse.{IsNumeralModel, numerals_by_fold, digits_value_short}
 use Rattle.std.proofs.lemmas.Fmt.{decimal_nonempty, first_decimal, decimal_digit, decimal_step, length-decimal-le, digits_decimal, digits_value-decimal, decimal-digits_value}
 use Rattle.std.proofs.lemmas.List.{at_drop_more, at_drop_all, drop-set, replicate_more}
-use Rattle.std.proofs.lemmas.Bool.{false≢true, both_ways, and_parts, and_from, and_left, and_right, eqb-false, eq-eqb, ne_eqb, not-true, not_from_false, leb-true, lt-leb, le-leb, lt-ltb, le-ltb, cases_Bool, cases_lt, cases_eq, cond-true, cond-false}
+use Rattle.std.proofs.lemmas.Bool.{false≢true, and_parts, and_from, and_left, and_right, eqb-false, eq-eqb, ne_eqb, not-true, not_from_false, leb-true, lt-leb, le-leb, lt-ltb, le-ltb, cases_Bool, cases_lt, cases_eq, cond-true, cond-false}
 use Rattle.lists.specs.Lists.{every}
 use Rattle.columns.specs.Symbols.{is_digit}
 use Rattle.columns.specs.Columns.{after_blanks, justified, well_written, value_from, digits_from, number, up_to, number_in}

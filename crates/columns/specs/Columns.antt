@@ -1,5 +1,5 @@
 -- Fields of fixed columns: blanks, then a text that ends in the last column. Assumes nothing.
-use Rattle.std.specs.Prelude.{ℕ, ◌+◌, ◌-◌, ◌*◌, Bool, true, false, cond, not, ◌&&◌, List, [], ◌∷◌, ◌++◌, length, drop, replicate, Some, None, decimal, Option, ◌==◌, nat_le}
+use Rattle.std.specs.Prelude.{ℕ, ◌+◌, ◌-◌, ◌*◌, Bool, false, cond, not, ◌&&◌, List, [], ◌∷◌, ◌++◌, length, drop, replicate, Some, None, decimal, Option, ◌==◌, nat_le}
 use Rattle.lists.specs.Lists.{every}
 use Rattle.columns.specs.Symbols.{is_digit}
 

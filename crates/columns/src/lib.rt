@@ -1,4 +1,6 @@
 // Fields of fixed columns: what stands after leading blanks, and decimal numbers.
+#![tactic(auto)]
+
 ghost use Rattle.std.specs.Prelude.{◌≡◌, length};
 ghost use Rattle.lists.specs.Lists.{every};
 ghost use Rattle.columns.specs.Symbols.{is};

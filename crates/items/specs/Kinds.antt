@@ -1,5 +1,5 @@
 -- The two kinds of item: axes and marks. Every number stands for one, past the last by counting on from the first. Assumes nothing.
-use Rattle.std.specs.Prelude.{ℕ, ◌+◌, ◌-◌, ◌%◌, Bool, true, false, cond, not, ◌&&◌, List, [], ◌∷◌, map, length, Some, None, Option, ◌==◌, nat_le}
+use Rattle.std.specs.Prelude.{ℕ, ◌+◌, ◌-◌, ◌%◌, Bool, cond, ◌&&◌, List, map, length, Some, None, Option, ◌==◌, nat_le}
 use Rattle.std.specs.Option.{option_map}
 use Rattle.columns.specs.Columns.{after_blanks, justified, number, up_to, number_in}
 use Rattle.columns.specs.Symbols.{is_letter}

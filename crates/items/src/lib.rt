@@ -1,4 +1,6 @@
 // What cues read and write: the trait of a kind of item, and the two kinds.
+#![tactic(auto)]
+
 ghost use Rattle.std.specs.Prelude.{◌≡◌, ℕ, ◌+◌, ◌-◌, ◌%◌, ◌≤◌, Bool, true, List, map, length, if◌then◌else◌, Some, None, decimal, Option};
 ghost use Rattle.std.proofs.Common.{sym, ap, subst, ◌∙◌, arith, rules};
 ghost use Rattle.items.specs.Fields.{Eight, Reads};

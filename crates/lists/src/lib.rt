@@ -1,1 +1,3 @@
+#![tactic(auto)]
+
 // Words on lists that the definitions of the other crates share, and their laws.

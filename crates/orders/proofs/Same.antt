@@ -1,7 +1,7 @@
 -- Two tests that agree on every rearrangement have the same first order. Assumes nothing.
-use Rattle.std.proofs.Common.{◌≡◌, ℕ, ◌<◌, ◌≤◌, Bool, true, false, ◌⊎◌, List, [], ◌∷◌, Some, None, Option, sym, refl, ap, ◌∙◌, inl, inr, arith}
+use Rattle.std.proofs.Common.{◌≡◌, ℕ, Bool, List, [], ◌∷◌, Some, None, Option, sym, refl, ap, ◌∙◌, inl, inr, arith}
 use Rattle.orders.specs.Orders.{among, first_where, orders}
-use Rattle.orders.specs.Least.{Rearranges, Before, Least}
+use Rattle.orders.specs.Least.{Rearranges, Before}
 use Rattle.orders.proofs.Leasts.{first_is_least, none_is_none}
 
 before_once : (o p : List ℕ) → Before o p → Before p o → ⊥

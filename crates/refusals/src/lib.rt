@@ -1,4 +1,6 @@
 // Why a call is refused, and the number that each refusal is known by.
+#![tactic(auto)]
+
 ghost use Rattle.std.specs.Prelude.{◌≡◌};
 ghost use Rattle.refusals.specs.declared.Layer.TheVariants.{Line, Book};
 ghost use Rattle.refusals.specs.Numbers.{number_of, line_number_of, layer_number_of};

@@ -1,6 +1,5 @@
-use Rattle.std.proofs.Common.{◌≡◌, ℕ, suc, ◌+◌, ◌-◌, ◌*◌, ◌/◌, ◌%◌, ◌^◌, ◌<◌, ◌≤◌, Bool, true, false, List, [], ◌∷◌, ◌++◌, length, drop, set, sym, refl, ap, ◌∙◌, append-nil, arith}
+use Rattle.std.proofs.Common.{◌≡◌, ℕ, ◌-◌, ◌/◌, ◌^◌, ◌<◌, List, [], ◌∷◌, ◌++◌, length, drop, sym, ap, ◌∙◌, append-nil, arith}
 use Rattle.std.proofs.lemmas.List.{drop_all}
-use Rattle.columns.specs.Columns.{number_in}
 use Rattle.columns.proofs.Numbers.{front, front_whole, front_blank, front_digit, column_more, front_zero}
 use Rattle.columns.proofs.write_number.Goals as goal
 use Rattle.columns.proofs.write_number.Goals.{then-rest-eq0+then-at-len, else-rest-eq0, else-rest-eq0-via-then-rest-eq0+else-at-len, else-rest-eq0-via-else-rest-eq0}
