@@ -1,10 +1,9 @@
 -- What an accepted entry does to a book. Assumes nothing.
-use Rattle.std.proofs.Common.{◌≡◌, ℕ, suc, ◌+◌, ◌-◌, ◌<◌, ◌≤◌, min, Bool, true, false, cond, not, leb, List, [], ◌∷◌, ◌++◌, length, take, drop, set, Ok, Err, Result, sym, refl, ap, ◌∙◌, arith}
+use Rattle.std.proofs.Common.{◌≡◌, ℕ, suc, ◌+◌, ◌-◌, ◌<◌, ◌≤◌, min, Bool, true, false, cond, not, leb, List, [], ◌∷◌, ◌++◌, length, take, drop, set, Ok, Err, sym, refl, ap, ◌∙◌, arith}
 use Rattle.std.proofs.lemmas.List.{append_assoc, length-set, length-take, length_push, set_split, take_more_set}
 use Rattle.std.proofs.lemmas.Slice.{drop-append-drop}
 use Rattle.lists.proofs.Takes.{take_drop_length}
 use Rattle.std.proofs.lemmas.Bool.{leb-false}
-use Rattle.refusals.specs.declared.Refusal.{Refusal}
 use Rattle.refusals.specs.declared.Refusal.TheVariants.{NoSuchCue, CueEnded, BookFull}
 use Rattle.history.specs.declared.Entry.{Entry}
 use Rattle.history.specs.Entries.{is_cue, ended}

@@ -1,5 +1,5 @@
 -- The steps of reading a sheet in. Assumes nothing.
-use Rattle.std.proofs.Common.{◌≡◌, ℕ, suc, ◌+◌, ◌-◌, ◌/◌, ◌<◌, ◌≤◌, Bool, true, false, List, [], ◌∷◌, ◌++◌, length, take, drop, Some, None, Ok, Err, Option, Result, sym, refl, ap, ◌∙◌, arith}
+use Rattle.std.proofs.Common.{◌≡◌, ℕ, suc, ◌+◌, ◌/◌, ◌<◌, true, false, List, [], ◌∷◌, ◌++◌, length, take, drop, Some, None, Ok, Err, Option, Result, sym, refl, ap, ◌∙◌, arith}
 use Rattle.std.proofs.lemmas.List.{length-drop, length_push}
 use Rattle.std.proofs.lemmas.Bool.{false≢true}
 use Rattle.refusals.specs.declared.LineRefusal.{LineRefusal}
@@ -8,10 +8,9 @@ use Rattle.history.specs.declared.Entry.{Entry}
 use Rattle.lines.specs.Reading.{line_in, next_in}
 use Rattle.lines.specs.Reading as lines
 use Rattle.refusals.specs.declared.Layer.{Layer}
-use Rattle.refusals.specs.declared.Layer.TheVariants.{Line, Book}
-use Rattle.book.specs.declared.sheets.ReadFault.{ReadFault}
+use Rattle.refusals.specs.declared.Layer.TheVariants.{Line}
 use Rattle.book.specs.Entering.{entered}
-use Rattle.book.specs.Reading.{Taken, lines_by, lines_of, of_book, of_line, line_entered, some, next_entered, told, added, step, read_from}
+use Rattle.book.specs.Reading.{lines_by, lines_of, of_book, of_line, line_entered, some, next_entered, told, added, step, read_from}
 
 -- the lines of what remains
 pub lines_none : (bs : List ℕ) → length bs ≡ 0 → lines_of bs ≡ []

@@ -1,4 +1,6 @@
 // The book: entries in the caller's memory, in the order in which they were accepted.
+#![tactic(auto)]
+
 ghost use Rattle.std.specs.Prelude.{◌≡◌, ◌<◌, ◌≤◌, [], length, slice_set};
 ghost use Rattle.book.specs.Entering.{room, accepted, entered, grown, Lays};
 

@@ -1,4 +1,6 @@
 // Checks the sheet of axes on standard input.
+#![tactic(auto)]
+
 use std::io;
 
 fn main(rt: HostRuntime) -> io::Result<()> {

@@ -1,4 +1,6 @@
 // Prints the report of the sheet of axes on standard input.
+#![tactic(auto)]
+
 use report::cue_report;
 use std::io;
 use std::io::{Read, Write};

@@ -1,4 +1,6 @@
 // What the programs do with their standard input.
+#![tactic(auto)]
+
 mod sheet;
 mod waiting;
 

@@ -1,4 +1,6 @@
 // Runs the calls on edge cases, and prints each case with its answer.
+#![tactic(auto)]
+
 use book::Book;
 use history::{Act, Entry};
 use items::{Axis, Item, Mark};

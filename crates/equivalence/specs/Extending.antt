@@ -1,5 +1,5 @@
 -- Orders that are extended number by number under two rules: who comes before whom, and who stands between no two. Assumes nothing.
-use Rattle.std.specs.Prelude.{◌≡◌, ℕ, Bool, true, false, cond, not, ◌&&◌, List, [], ◌∷◌, None, Option}
+use Rattle.std.specs.Prelude.{◌≡◌, ℕ, Bool, true, cond, not, ◌&&◌, List, [], ◌∷◌, None}
 use Rattle.lists.specs.Lists.{some}
 use Rattle.orders.specs.Orders.{first_where, orders}
 use Rattle.history.specs.declared.Entry.{Entry}

@@ -1,4 +1,6 @@
 // What holds of view-equivalent orders, for every kind of item.
+#![tactic(auto)]
+
 ghost use Rattle.equivalence.specs.Constraints.{ViewIsAllowed};
 ghost use Rattle.equivalence.specs.Extending.{ViewsByConstraints};
 ghost use Rattle.equivalence.specs.Laws.{KeptIsView, ViewIsSame};

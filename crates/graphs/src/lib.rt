@@ -1,4 +1,6 @@
 // The first order in dictionary order of a graph's numbers that follows every edge, or a cycle.
+#![tactic(auto)]
+
 ghost use Rattle.std.specs.Prelude.{◌≡◌, ℕ, ◌+◌, ◌-◌, ◌<◌, ◌≤◌, Bool, true, false, List, length, take, drop, MatchOption};
 ghost use Rattle.graphs.specs.Edges.{FollowsForward};
 ghost use Rattle.graphs.specs.Answer.{Finds, search_refusal, refusal_in, strip_after, Lists};

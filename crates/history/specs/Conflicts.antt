@@ -1,5 +1,5 @@
 -- Which entries conflict. Assumes nothing.
-use Rattle.std.specs.Prelude.{ℕ, Bool, true, false, not, ◌&&◌, ◌==◌}
+use Rattle.std.specs.Prelude.{Bool, false, not, ◌&&◌, ◌==◌}
 use Rattle.history.specs.declared.Act.{Act}
 use Rattle.history.specs.declared.Act.TheVariants.{Read, Write, Commit, Abort}
 use Rattle.history.specs.declared.Entry.{Entry}

@@ -1,4 +1,6 @@
 // A history: the entries of a book in their order, and what they say of a cue.
+#![tactic(auto)]
+
 ghost use Rattle.std.specs.Prelude.{◌≡◌, ℕ, Bool, true};
 ghost use Rattle.history.specs.Conflicts.{conflict, writes};
 ghost use Rattle.history.specs.Endings.{act_of};

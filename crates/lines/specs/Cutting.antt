@@ -6,7 +6,6 @@ use Rattle.refusals.specs.declared.LineRefusal.TheVariants.{Shape}
 use Rattle.lists.specs.Lists.{every, has}
 use Rattle.columns.specs.Symbols.{is_digit, is_letter}
 use Rattle.columns.specs.Columns.{after_blanks}
-use Rattle.lines.specs.declared.cuts.Part.{Part}
 use Rattle.lines.specs.declared.cuts.Field.{Field}
 use Rattle.lines.specs.declared.cuts.Field.TheVariants.{Digits, Letters, Blanks, Other}
 use Rattle.lines.specs.declared.cuts.Fields.{Fields}

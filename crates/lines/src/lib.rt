@@ -1,4 +1,6 @@
 // The line format of a sheet: a line of 16 bytes says one entry.
+#![tactic(auto)]
+
 mod cuts;
 mod reads;
 mod writes;

@@ -1,4 +1,6 @@
 // A kind of item made here, outside the library, of which every two items are the same. Runs over it, with their answers.
+#![tactic(auto)]
+
 ghost use Rattle.std.specs.Prelude.{true, Some};
 ghost use Rattle.one_item.specs.Texts.{star};
 ghost use Rattle.std.proofs.Common.{rules};

@@ -1,8 +1,8 @@
 -- Tables of each cue's first entry. Assumes nothing.
-use Rattle.std.proofs.Common.{◌≡◌, ℕ, suc, ◌+◌, ◌-◌, ◌<◌, ◌≤◌, Bool, true, false, cond, ◌&&◌, eqb, ltb, List, length, get_or, take, drop, set, sym, refl, ap, ◌∙◌, subst, inl, inr, arith}
+use Rattle.std.proofs.Common.{◌≡◌, ℕ, suc, ◌+◌, ◌-◌, ◌<◌, ◌≤◌, Bool, true, false, ◌&&◌, ltb, List, length, get_or, take, drop, set, sym, ap, ◌∙◌, inl, inr, arith}
 use Rattle.std.proofs.lemmas.List.{get_or-set_same, get_or-set_other, length-take, take-take}
 use Rattle.std.proofs.lemmas.Bool.{and_parts, and_left, cases_Bool, cases_eq, cond-true, cond-false, leb-true}
-use Rattle.lists.specs.Lists.{first_at, some}
+use Rattle.lists.specs.Lists.{first_at}
 use Rattle.lists.proofs.Firsts.{first_at_before, some_take}
 use Rattle.history.specs.declared.Act.{Act}
 use Rattle.history.specs.declared.Entry.{Entry}

@@ -1,6 +1,6 @@
 -- Where recoverability, cascadelessness and strictness break. Assumes nothing.
 -- Each break is a test of an entry e with the entries seen before it, so later entries do not change it.
-use Rattle.std.specs.Prelude.{ℕ, zero, suc, Bool, true, false, not, ◌&&◌, List, [], Some, None, Option, ◌==◌}
+use Rattle.std.specs.Prelude.{ℕ, zero, suc, Bool, false, not, ◌&&◌, List, [], Some, None, Option, ◌==◌}
 use Rattle.lists.specs.Lists.{some, last_where, placed, somewhere, passes}
 use Rattle.history.specs.declared.Entry.{Entry}
 use Rattle.history.specs.Entries.{is_commit, committed, aborted, ended}

@@ -1,4 +1,6 @@
 // How recoverable a history is.
+#![tactic(auto)]
+
 ghost use Rattle.std.specs.Prelude.{◌≡◌, ◌+◌, ◌≤◌, not, ◌&&◌, length, take, drop, ◌==◌};
 ghost use Rattle.lists.specs.Lists.{some, first_from};
 ghost use Rattle.history.specs.Conflicts.{writes};

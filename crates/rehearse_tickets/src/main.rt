@@ -1,4 +1,5 @@
 // The rehearsal of a trap, a lift and a blackout, with tickets and marks.
+#![tactic(auto)]
 
 fn main(rt: HostRuntime) -> anyhow::Result<()> {
     stage::run(&rt)

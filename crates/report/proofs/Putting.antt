@@ -1,20 +1,20 @@
 -- The lines of the order and of the views, from the answers. Assumes nothing.
-use Rattle.std.proofs.Common.{◌≡◌, ℕ, ◌+◌, ◌-◌, ◌*◌, ◌<◌, ◌≤◌, Bool, true, false, cond, ltb, List, [], ◌∷◌, ◌++◌, length, take, drop, Some, None, Ok, Err, Option, Result, sym, refl, ap, ◌∙◌, subst, arith}
+use Rattle.std.proofs.Common.{◌≡◌, ℕ, ◌+◌, ◌-◌, ◌*◌, ◌≤◌, Bool, true, false, cond, ltb, List, [], length, take, drop, Some, None, Ok, Err, Option, sym, refl, ap, ◌∙◌, subst, arith}
 use Rattle.std.proofs.lemmas.List.{length-append, length-drop, length-take-le, take_at}
-use Rattle.std.proofs.lemmas.Bool.{cond-true, cond-false, cond_both, le-ltb}
+use Rattle.std.proofs.lemmas.Bool.{cond-false, le-ltb}
 use Rattle.refusals.specs.declared.Refusal.{Refusal}
 use Rattle.refusals.specs.declared.Refusal.TheVariants.{ManyCues, ListShort, StripShort}
 use Rattle.lists.specs.Lists.{laid}
 use Rattle.orders.proofs.Among.{among_short}
 use Rattle.history.specs.declared.Entry.{Entry}
 use Rattle.history.specs.Entries.{committed}
-use Rattle.history.specs.Order.{committed_cues, conflict_order, ConflictCycle}
+use Rattle.history.specs.Order.{committed_cues, conflict_order}
 use Rattle.history.specs.Views.{view_order}
 use Rattle.graphs.specs.declared.Found.{Found as Answer}
 use Rattle.graphs.specs.declared.Found.TheVariants.{Order, Cycle}
 use Rattle.serial.specs.OrderAnswer.{order_refusal, OrderFound, CycleFound, OrderOrCycle}
-use Rattle.views.specs.Answer.{views_refusal, answered, left, views_answer, views_list}
-use Rattle.report.specs.Text.{order, cycle, views, vnone, vmany, line, order_line, views_line, views_text}
+use Rattle.views.specs.Answer.{views_refusal, answered, left}
+use Rattle.report.specs.Text.{order, cycle, views, vmany, line, order_line, views_line, views_text}
 use Rattle.report.specs.Report.{OrderPut, ViewsPut}
 use Rattle.report.proofs.Laying.{line_long}
 

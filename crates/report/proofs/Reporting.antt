@@ -1,5 +1,5 @@
 -- The report, from its lines. Assumes nothing.
-use Rattle.std.proofs.Common.{◌≡◌, ℕ, ◌+◌, ◌*◌, ◌<◌, ◌≤◌, min, Bool, List, [], ◌∷◌, ◌++◌, length, drop, replicate, None, Ok, Err, Result, sym, refl, ap, ◌∙◌, subst, zero-add, arith}
+use Rattle.std.proofs.Common.{◌≡◌, ℕ, ◌+◌, ◌*◌, ◌≤◌, min, Bool, List, [], ◌∷◌, ◌++◌, length, drop, replicate, Ok, Err, Result, sym, refl, ap, ◌∙◌, subst, zero-add, arith}
 use Rattle.std.proofs.lemmas.List.{length-append, length-replicate}
 use Rattle.refusals.specs.Numbers.{layer_number_of}
 use Rattle.lists.specs.Lists.{laid}
@@ -10,7 +10,7 @@ use Rattle.history.specs.declared.Entry.{Entry}
 use Rattle.history.specs.Order.{conflict_order}
 use Rattle.recovery.specs.Classes.{class_number, class_place, class_of}
 use Rattle.book.specs.declared.sheets.ReadFault.{ReadFault}
-use Rattle.book.specs.Reading.{Taken, lines_of, read_in}
+use Rattle.book.specs.Reading.{lines_of, read_in}
 use Rattle.report.specs.Text.{class, fault, line, class_line, order_line, views_text, answers_text, report_text}
 use Rattle.report.specs.Report.{OrderPut, ViewsPut, AnswersPut, read_sheet, report_of, CycleShown, Written, Reported}
 use Rattle.report.proofs.Bounds.{LineWithin, sheet_within}

@@ -1,4 +1,6 @@
 // The report of a sheet of axes, as bytes for the console.
+#![tactic(auto)]
+
 ghost use Rattle.std.specs.Prelude.{◌≡◌, ◌+◌, ◌*◌, ◌≤◌, length};
 ghost use Rattle.lists.specs.Lists.{laid};
 ghost use Rattle.recovery.specs.Classes.{class_of};

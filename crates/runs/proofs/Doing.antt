@@ -1,5 +1,5 @@
 -- What one call leaves. Assumes nothing.
-use Rattle.std.proofs.Common.{◌≡◌, ℕ, zero, suc, ◌+◌, ◌-◌, ◌<◌, ◌≤◌, Bool, true, false, cond, ◌&&◌, leb, List, [], ◌∷◌, ◌++◌, length, get_or, take, drop, set, Some, None, Ok, Err, Option, Result, sym, refl, ap, ◌∙◌, subst, append_assoc, arith}
+use Rattle.std.proofs.Common.{◌≡◌, ℕ, zero, suc, ◌+◌, ◌-◌, ◌<◌, ◌≤◌, Bool, true, false, leb, List, [], ◌∷◌, ◌++◌, length, get_or, take, drop, set, Some, None, Ok, Err, Option, Result, sym, refl, ap, ◌∙◌, subst, append_assoc, arith}
 use Rattle.std.proofs.lemmas.List.{length-append, length-set, length-take-le, take-append-drop, drop_at, get_or-take, set-get_or, set-set}
 use Rattle.std.proofs.lemmas.Bool.{and_parts, cond-true, cond-false, leb-true}
 use Rattle.refusals.specs.declared.Refusal.{Refusal}
@@ -13,13 +13,13 @@ use Rattle.book.specs.declared.tickets.Receipt.{Receipt}
 use Rattle.book.specs.declared.tickets.Step.{Step}
 use Rattle.book.specs.declared.tickets.Ticket.{Ticket}
 use Rattle.book.specs.Entering.{entered, grown}
-use Rattle.book.specs.Reading.{Taken, lines_of, line_entered, step, read_from, read_in}
+use Rattle.book.specs.Reading.{lines_of, line_entered, step, read_from, read_in}
 use Rattle.book.specs.Tickets.{begun, stepped, under, closed}
 use Rattle.runs.specs.declared.Answer.{Answer}
 use Rattle.runs.specs.declared.Answer.TheVariants as answer
 use Rattle.runs.specs.declared.Call.{Call}
 use Rattle.runs.specs.declared.Call.TheVariants as call
-use Rattle.runs.specs.Runs.{State, is_given, ticket_at, place_or, receipt_or, ticket_or, lines_or, why_or, held, one, one_under, more, used_by, used, accepts, gives, Right, Done}
+use Rattle.runs.specs.Runs.{State, is_given, ticket_at, place_or, receipt_or, ticket_or, why_or, held, one, one_under, more, used_by, used, accepts, gives, Right, Done}
 
 append_none : {X : Type 0} (xs : List X) → xs ++ [] ≡ xs
 append_none [] = refl

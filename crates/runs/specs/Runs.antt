@@ -1,7 +1,6 @@
 -- The law of runs: what is accepted, and what the answers say. Assumes nothing.
-use Rattle.std.specs.Prelude.{◌≡◌, ℕ, ◌+◌, ◌-◌, ◌<◌, ◌≤◌, Bool, false, cond, ◌&&◌, List, [], ◌∷◌, ◌++◌, length, take, drop, Some, None, Ok, Err, Option, Result, ◌≢◌, nat_le, nat_lt, slice_index_or, slice_set}
+use Rattle.std.specs.Prelude.{◌≡◌, ℕ, ◌+◌, ◌-◌, ◌<◌, ◌≤◌, Bool, cond, ◌&&◌, List, [], ◌∷◌, ◌++◌, length, take, drop, Some, None, Ok, Err, Option, Result, ◌≢◌, nat_le, nat_lt, slice_index_or, slice_set}
 use Rattle.refusals.specs.declared.Refusal.{Refusal}
-use Rattle.history.specs.declared.Act.{Act}
 use Rattle.history.specs.declared.Ending.{Ending}
 use Rattle.history.specs.declared.Entry.{Entry}
 use Rattle.history.specs.Endings.{act_of}
@@ -12,7 +11,7 @@ use Rattle.serial.specs.Why.{why_answer, Tells}
 use Rattle.book.specs.declared.sheets.ReadFault.{ReadFault}
 use Rattle.book.specs.declared.tickets.Ticket.{Ticket}
 use Rattle.book.specs.Entering.{entered}
-use Rattle.book.specs.Reading.{Taken, read_in}
+use Rattle.book.specs.Reading.{read_in}
 use Rattle.book.specs.Tickets.{begun, stepped, under}
 use Rattle.runs.specs.declared.Answer.{Answer}
 use Rattle.runs.specs.declared.Answer.TheVariants as answer

@@ -1,4 +1,6 @@
 // Runs: any list of calls on a new book, with all their answers.
+#![tactic(auto)]
+
 ghost use Rattle.std.specs.Prelude.{◌≡◌, ◌<◌, min, length, take};
 ghost use Rattle.book.specs.Entering.{room, accepted, Lays};
 ghost use Rattle.serial.specs.Why.{why_answer};

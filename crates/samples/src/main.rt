@@ -1,4 +1,6 @@
 // Runs sample books through the calls, and prints each with its answers.
+#![tactic(auto)]
+
 mod notation;
 
 use book::Book;

@@ -1,4 +1,6 @@
 // Runs the search on wait lists at its edges, and prints what came of each.
+#![tactic(auto)]
+
 use graphs::{Found, Wait, wait_order};
 use refusals::Refusal;
 use std::io;

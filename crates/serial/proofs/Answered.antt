@@ -1,5 +1,5 @@
 -- What the search in the graph answers, said of the entries. Assumes nothing.
-use Rattle.std.proofs.Common.{◌≡◌, ℕ, Bool, cond, ltb, List, length, take, Some, None, Ok, Err, Option, Result, sym, ap, ◌∙◌}
+use Rattle.std.proofs.Common.{◌≡◌, ℕ, Bool, cond, ltb, List, length, take, Some, None, Ok, Err, Result, sym, ap, ◌∙◌}
 use Rattle.refusals.specs.declared.Refusal.{Refusal}
 use Rattle.refusals.specs.declared.Refusal.TheVariants.{ListShort, StripShort}
 use Rattle.history.specs.declared.Entry.{Entry}

@@ -1,4 +1,6 @@
 // Questions about the order that conflicts put cues in.
+#![tactic(auto)]
+
 ghost use Rattle.std.specs.Prelude.{◌≡◌, length};
 ghost use Rattle.graphs.specs.Answer.{refusal_in, strip_after};
 ghost use Rattle.history.specs.Order.{CycleLasts};

@@ -1,5 +1,7 @@
 // What the programs that rehearse do: a script of calls is read from standard input, performed on a new book, and printed with
 // its answers.
+#![tactic(auto)]
+
 mod answers;
 mod calls;
 mod faults;

@@ -1,4 +1,6 @@
 // Writes under tickets as they are meant to be used, and prints each answer. The edits in `must-fail` use a ticket once more than that.
+#![tactic(auto)]
+
 use book::{Book, Receipt, Step, Ticket};
 use history::{Act, Ending, Entry};
 use items::Axis;

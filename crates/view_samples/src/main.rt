@@ -1,4 +1,6 @@
 // Asks views of sample books, and prints each with its answer.
+#![tactic(auto)]
+
 mod notation;
 
 use book::Book;

@@ -1,4 +1,6 @@
 // Which order of the committed cues readers and the final state cannot tell from what happened.
+#![tactic(auto)]
+
 ghost use Rattle.std.specs.Prelude.{◌≡◌};
 ghost use Rattle.views.specs.Answer.{views_answer, views_list};
 

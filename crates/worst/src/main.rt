@@ -1,5 +1,7 @@
 // Asks views of books at their worst, full ones but the last, and of lists at their edges, and prints each answer. With two words, the number of a book
 // and a count, it asks that book so often, for a clock outside.
+#![tactic(auto)]
+
 use book::Book;
 use history::{Act, Entry};
 use items::Axis;

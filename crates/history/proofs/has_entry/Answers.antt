@@ -1,4 +1,4 @@
-use Rattle.std.proofs.Common.{◌≡◌, Bool, true, false, sym, ◌∙◌}
+use Rattle.std.proofs.Common.{◌≡◌, false, sym, ◌∙◌}
 use Rattle.lists.specs.Lists.{some}
 use Rattle.lists.proofs.Steps.{some_yes, some_no, some_end}
 use Rattle.std.proofs.lemmas.Bool.{and_from, and_right}

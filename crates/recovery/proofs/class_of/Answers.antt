@@ -1,6 +1,6 @@
-use Rattle.std.proofs.Common.{◌≡◌, ℕ, Some, None, sym, ap, ◌∙◌}
-use Rattle.recovery.specs.Breaks.{breaks_recoverable, breaks_cascadeless, breaks_strict}
-use Rattle.recovery.specs.Classes.{first_break, ranked}
+use Rattle.std.proofs.Common.{sym}
+use Rattle.recovery.specs.Breaks.{breaks_cascadeless, breaks_strict}
+use Rattle.recovery.specs.Classes.{ranked}
 use Rattle.recovery.proofs.BreakLaws.{first_place, strict_cascadeless, cascadeless_recoverable, cascadeless_from_strict, recoverable_from_cascadeless}
 use Rattle.recovery.proofs.class_of.Goals as goal
 

@@ -1,6 +1,5 @@
-use Rattle.std.proofs.Common.{◌≡◌, ℕ, ◌-◌, Bool, true, false, List, take, sym, ap, ◌∙◌, arith}
+use Rattle.std.proofs.Common.{◌≡◌, ℕ, ◌-◌, true, false, take, sym, ap, ◌∙◌, arith}
 use Rattle.lists.proofs.FrontSteps.{first_yes, first_no, first_end}
-use Rattle.history.specs.declared.Entry.{Entry}
 use Rattle.recovery.specs.Rules.{breaks_of}
 use Rattle.recovery.proofs.Tables.{tells_take}
 use Rattle.recovery.proofs.first_break.Goals as goal

@@ -1,8 +1,7 @@
-use Rattle.std.proofs.Common.{◌≡◌, ℕ, ◌<◌, min, List, length, Ok, sym, refl, ap, ◌∙◌, subst, arith}
+use Rattle.std.proofs.Common.{◌≡◌, ℕ, ◌<◌, min, List, length, sym, ap, ◌∙◌, subst, arith}
 use Rattle.history.specs.declared.Entry.{Entry}
 use Rattle.book.specs.Entering.{room}
-use Rattle.runs.specs.declared.Answer.{Answer}
-use Rattle.runs.specs.Runs.{wanted, Performed}
+use Rattle.runs.specs.Runs.{Performed}
 use Rattle.runs.proofs.Going.{counted, counted_ticket, counted_other, going_more, going_all, wanted_none}
 use Rattle.runs.proofs.perform.Goals as goal
 use Rattle.runs.proofs.perform.Goals.{in-Ticket, in_default}

@@ -1,14 +1,12 @@
-use Rattle.std.proofs.Common.{◌≡◌, ℕ, ◌+◌, ◌-◌, Bool, true, false, List, get_or, take, set, Some, None, Ok, Err, Option, sym, refl, ap, ◌∙◌, subst}
+use Rattle.std.proofs.Common.{◌+◌, ◌-◌, take, set, Some, sym, refl, ap, ◌∙◌, subst}
 use Rattle.history.specs.declared.Act.{Act}
-use Rattle.history.specs.declared.Entry.{Entry}
 use Rattle.book.specs.declared.tickets.Step.{Step}
 use Rattle.book.specs.Entering.{room, accepted, entered, grown}
-use Rattle.book.specs.Reading.{Taken, read_in}
 use Rattle.book.specs.Tickets.{stepped, under}
 use Rattle.book.proofs.Entering.{lays_none}
 use Rattle.runs.specs.declared.Answer.TheVariants as answer
 use Rattle.runs.specs.declared.Call.TheVariants as call
-use Rattle.runs.specs.Runs.{place_or, lines_or, Done}
+use Rattle.runs.specs.Runs.{lines_or, Done}
 use Rattle.runs.proofs.Doing.{idle, why_done, enter_done, read_done, same_call, record_not_given, record_used, record_done, begin_given, begin_refused, end_not_given, end_used, end_done, end_refused, closed_ok, closed_err}
 use Rattle.runs.proofs.perform_one.Goals as goal
 

@@ -1,8 +1,6 @@
-use Rattle.std.proofs.Common.{◌≡◌, ℕ, ◌-◌, ◌<◌, ◌≤◌, Bool, true, false, List, length, take, replicate, sym, ap, ◌∙◌, arith}
+use Rattle.std.proofs.Common.{◌-◌, false, length, take, replicate, sym, ap, ◌∙◌, arith}
 use Rattle.refusals.specs.declared.Refusal.TheVariants.{ManyCues, ListShort}
-use Rattle.history.specs.Order.{committed_cues}
 use Rattle.equivalence.specs.Laws.{Sameness}
-use Rattle.views.specs.Answer.{views_refusal}
 use Rattle.views.specs.Shown.{rest_of}
 use Rattle.views.proofs.Answering.{view_hidden, view_found, listed_count, listed_numbers, listed_distinct, listed_cues, listed_place, many_refused, short_refused, not_refused, refused_answer, refused_list, none_answer, none_list, found_answer, found_list}
 use Rattle.views.proofs.Trying.{found_none}

@@ -1,6 +1,5 @@
-use Rattle.std.proofs.Common.{◌≡◌, ℕ, ◌<◌, List, length, take, Ok, Err, sym, refl, ap, ◌∙◌, arith}
+use Rattle.std.proofs.Common.{◌≡◌, length, take, Ok, Err, sym, refl, ap, ◌∙◌, arith}
 use Rattle.std.proofs.lemmas.Result.{err_from_is_err_and}
-use Rattle.history.specs.declared.Entry.{Entry}
 use Rattle.book.specs.Entering.{accepted, entered, grown, room}
 use Rattle.book.proofs.Entering.{Free, entered_free, place_within, grows, lays_none, lays_one}
 use Rattle.book.proofs.Book.enter.Given as given

@@ -1,8 +1,7 @@
-use Rattle.std.proofs.Common.{◌≡◌, ℕ, ◌+◌, ◌≤◌, min, Bool, true, false, List, length, take, drop, Ok, Err, sym, refl, ap, ◌∙◌, arith}
+use Rattle.std.proofs.Common.{◌≡◌, ℕ, ◌+◌, min, length, take, drop, Ok, sym, refl, ap, ◌∙◌, arith}
 use Rattle.std.proofs.lemmas.List.{length-drop}
 use Rattle.lists.proofs.Takes.{take_min, drop_min}
-use Rattle.history.specs.declared.Entry.{Entry}
-use Rattle.book.specs.Entering.{room, accepted, Lays}
+use Rattle.book.specs.Entering.{room, accepted}
 use Rattle.book.specs.Reading.{Taken, lines_of, next_entered, told, added, read_from}
 use Rattle.book.proofs.Entering.{lays_none, lays_two}
 use Rattle.book.proofs.Reading.{turn_end, turn_fault, turn_more}

@@ -1,4 +1,4 @@
-use Rattle.std.proofs.Common.{◌≡◌, ℕ, Some, Ok, sym, ◌∙◌}
+use Rattle.std.proofs.Common.{Some, Ok, sym, ◌∙◌}
 use Rattle.lines.proofs.Cutting.{cut_whole, whole_long}
 use Rattle.lines.proofs.cuts.cut.Goals as goal
 

@@ -1,6 +1,5 @@
-use Rattle.std.proofs.Common.{◌≡◌, Some, None, Ok, Err, Option, sym, ap, ◌∙◌}
+use Rattle.std.proofs.Common.{◌≡◌, Some, Ok, Err, sym, ap, ◌∙◌}
 use Rattle.std.proofs.lemmas.Result.{err_from_is_err_and}
-use Rattle.lines.specs.declared.cuts.Fields.{Fields}
 use Rattle.lines.specs.Cutting.{cut_of, viewed, viewed_cut}
 use Rattle.lines.proofs.Cutting.{cut_well}
 use Rattle.lines.proofs.Reading.{next_end, next_bad, next_line}

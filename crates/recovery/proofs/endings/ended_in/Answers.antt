@@ -1,4 +1,4 @@
-use Rattle.std.proofs.Common.{◌≡◌, Bool, ◌||◌, sym, ap, ◌∙◌}
+use Rattle.std.proofs.Common.{Bool, ◌||◌, sym, ap, ◌∙◌}
 use Rattle.history.specs.Entries.{committed, aborted}
 use Rattle.history.proofs.Endings.{ended_either}
 use Rattle.std.proofs.lemmas.Bool.{or_left}

@@ -1,11 +1,10 @@
-use Rattle.std.proofs.Common.{◌≡◌, ℕ, ◌+◌, ◌-◌, ◌<◌, ◌≤◌, Bool, true, false, cond, not, ◌&&◌, List, length, take, Some, None, Option, sym, refl, ap, ◌∙◌, arith}
+use Rattle.std.proofs.Common.{◌≡◌, ℕ, ◌+◌, ◌-◌, Bool, true, false, not, ◌&&◌, List, take, Some, sym, ap, ◌∙◌, arith}
 use Rattle.std.proofs.lemmas.Bool.{and_from, and_left, and_right, cond-true, cond-false, not_from_true, not_from_false}
 use Rattle.lists.specs.Lists.{last_where, placed}
 use Rattle.lists.proofs.Last.{last_all, last_before}
 use Rattle.history.specs.declared.Entry.{Entry}
 use Rattle.history.specs.Entries.{aborted}
 use Rattle.history.specs.Conflicts.{writes}
-use Rattle.recovery.specs.declared.sources.Source.{Source}
 use Rattle.recovery.specs.Rules.{place_and_cue}
 use Rattle.recovery.proofs.sources.source_of.Goals as goal
 use Rattle.recovery.proofs.sources.source_of.Goals.{else-not-aborted_in-via-then-not-aborted_in+else-writes_item, else-not-aborted_in-via-else-not-aborted_in}

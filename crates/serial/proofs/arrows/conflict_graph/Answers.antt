@@ -1,6 +1,5 @@
-use Rattle.std.proofs.Common.{◌≡◌, ℕ, ◌+◌, ◌-◌, ◌<◌, ◌≤◌, Bool, true, false, List, length, get_or, drop, sym, refl, ap, ◌∙◌, subst, arith}
+use Rattle.std.proofs.Common.{◌≡◌, ◌+◌, length, drop, sym, refl, ap, ◌∙◌, subst, arith}
 use Rattle.std.proofs.lemmas.List.{drop_all, take_rest}
-use Rattle.history.specs.declared.Entry.{Entry}
 use Rattle.serial.specs.Drawn.{Adds}
 use Rattle.serial.proofs.Drawing.{Drew, drew_none, drew_more, drew_past, drew_all}
 use Rattle.serial.proofs.arrows.conflict_graph.Goals as goal

@@ -1,8 +1,8 @@
-use Rattle.std.proofs.Common.{◌≡◌, ℕ, suc, ◌+◌, ◌-◌, ◌<◌, ◌≤◌, Bool, true, false, List, length, get_or, set, sym, refl, ap, ◌∙◌, arith}
+use Rattle.std.proofs.Common.{◌≡◌, ℕ, ◌+◌, ◌-◌, ◌<◌, ◌≤◌, true, false, List, length, get_or, set, sym, refl, ap, ◌∙◌, arith}
 use Rattle.std.proofs.ByRecursion.{All-get_or}
 use Rattle.history.specs.Entries.{is_cue}
 use Rattle.history.proofs.Committed.{cue_low, cue_high}
-use Rattle.views.specs.Shown.{left_of, rest_of, is_found, laid_in}
+use Rattle.views.specs.Shown.{rest_of, is_found, laid_in}
 use Rattle.views.proofs.Trying.{has_at, rest_none, rest_tried, left_less, past_placed, past_barred, past_tried, rest_found, rest_end, laid_none, laid_whole, laid_more, found_more}
 use Rattle.views.proofs.extending.+extend.Goals as goal
 use Rattle.views.proofs.extending.+extend.Goals.{then-not-is_marked+then-may_come+else-extend, else-not-is_marked, else-not-is_marked-via-then-not-is_marked+else-may_come, else-not-is_marked-via-else-not-is_marked}

@@ -1,4 +1,4 @@
-use Rattle.std.proofs.Common.{◌≡◌, ℕ, ◌+◌, ◌-◌, ◌<◌, ◌≤◌, Bool, true, false, ◌&&◌, List, get_or, set, sym, ap, ◌∙◌, subst, arith}
+use Rattle.std.proofs.Common.{◌≡◌, ℕ, ◌+◌, ◌-◌, ◌≤◌, Bool, true, false, ◌&&◌, List, get_or, set, sym, ap, ◌∙◌, subst, arith}
 use Rattle.history.specs.Entries.{is_cue}
 use Rattle.history.specs.Marked.{marked}
 use Rattle.history.proofs.Committed.{is_cue_lem}
