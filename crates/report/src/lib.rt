@@ -92,8 +92,7 @@ fn put_answers<K: Item>(book: &Book<'_, K>, space: &mut [u8]) -> usize
 
 // Reads a sheet of axes, writes the report to the front of the space and answers its length; or answers 25 where the space is shorter
 // than 388 bytes, before the sheet is looked at.
-#[unsafe(no_mangle)]
-pub extern "C" fn cue_report(sheet: &[u8], space: &mut [u8]) -> usize
+pub fn cue_report(sheet: &[u8], space: &mut [u8]) -> usize
     ensures { Reported sheet.now space.old space.new result }
 {
     if space.len() < LONGEST {
