@@ -4,3 +4,4 @@ pub mod Extending
 pub mod Leasts
 pub mod Precedence
 pub mod Same
+pub mod Standing
