@@ -7,7 +7,7 @@ set -eu
 cd "$(dirname "$0")/.."
 
 if [ -z "${LIB:-}" ]; then
-    rt staticlib report
+    tools/library.sh
     LIB=target/staticlib/libreport.a
 fi
 CC=${CC:-cc}

@@ -1,6 +1,6 @@
 -- The sample books: each with its class and the class's place, its order or a cycle, and its view-equivalent order. Assumes nothing.
 use Rattle.std.specs.Prelude.{ℕ, ◌-◌, List, [], ◌∷◌, Some, None}
-use Rattle.std.specs.List.{AllByRecursion as All}
+use Rattle.std.specs.List.{AllByRecursion}
 use Rattle.items.specs.declared.Axis.{Axis}
 use Rattle.items.specs.declared.Mark.{Mark}
 use Rattle.items.specs.Kinds.{axis_alike, mark_alike}
@@ -76,6 +76,6 @@ interleavings =
     []
 
 pub record SamplesAgree : Type 0 where
-  pub of_axes : All (Agrees axis_alike) axes
-  pub of_marks : All (Agrees mark_alike) marks
-  pub of_interleavings : All (Agrees axis_alike) interleavings
+  pub of_axes : AllByRecursion (Agrees axis_alike) axes
+  pub of_marks : AllByRecursion (Agrees mark_alike) marks
+  pub of_interleavings : AllByRecursion (Agrees axis_alike) interleavings

@@ -1,7 +1,7 @@
 // The search for an order that keeps the constraints, cue by cue.
 ghost use Rattle.std.specs.Prelude.{◌≡◌, ◌+◌, ◌≤◌, true, length};
 ghost use Rattle.equivalence.specs.Extending.{may_come};
-ghost use Rattle.std.specs.List.{AllByRecursion as All};
+ghost use Rattle.std.specs.List.{AllByRecursion};
 ghost use Rattle.lists.specs.Lists.{some};
 ghost use Rattle.history.specs.Entries.{is_cue};
 ghost use Rattle.orders.specs.Least.{Distinct};
@@ -61,7 +61,7 @@ pub fn extend(
     at: usize,
 ) -> bool
     requires distinct { Distinct cues.now }
-    requires cues { All (λ n. is_cue n ≡ true) cues.now }
+    requires cues { AllByRecursion (λ n. is_cue n ≡ true) cues.now }
     requires place { at + length (left_of cues.now placed.now) ≡ length cues.now }
     requires room { length cues.now ≤ length list.old }
     ensures found { result ≡ is_found (rest_of t.now cues.now placed.now) }
