@@ -1,0 +1,34 @@
+#!/bin/sh
+# Shows that the compiler refuses each misuse of a ticket in tools/misuses/ because the ticket was moved by then.
+# A misuse is a change of the program crates/tickets: a line 'old: TEXT' that stands once in it, and 'new: TEXT' in its place.
+set -eu
+cd "$(dirname "$0")/.."
+
+dir=$(mktemp -d)
+trap 'rm -rf "$dir"' EXIT
+git archive HEAD crates crates.txt | tar -x -C "$dir"
+status=0
+for misuse in tools/misuses/*.edit; do
+    python3 - "$misuse" crates/tickets/src/main.rt "$dir/crates/tickets/src/main.rt" <<'PY'
+import sys
+edit, program, to = sys.argv[1:]
+text = open(program, encoding="utf-8").read()
+lines = open(edit, encoding="utf-8").read().split("\n")
+old = [l[5:] for l in lines if l.startswith("old: ")]
+new = [l[5:] for l in lines if l.startswith("new: ")]
+for o, n in zip(old, new):
+    if text.count(o) != 1:
+        sys.exit(f"{edit}: its old text stands {text.count(o)} times in {program}")
+    text = text.replace(o, n)
+open(to, "w", encoding="utf-8").write(text)
+PY
+    (cd "$dir/crates/tickets" && rt check) >"$dir/said" 2>&1 || true
+    if grep -q 'borrow-e0382' "$dir/said"; then
+        echo "refused  $misuse: $(grep -m1 'borrow-e0382' "$dir/said")"
+    else
+        echo "NOT REFUSED  $misuse"
+        tail -5 "$dir/said"
+        status=1
+    fi
+done
+exit $status
