@@ -18,7 +18,7 @@ use refusals::Refusal;
 // How many entries the book holds.
 const PLACES: usize = 2048;
 
-// How many bytes the longest report has.
+// How many bytes the space must have: no report has more.
 const LONGEST: usize = 388;
 
 // Writes a line from `at` on: the word, and each number right-justified in five columns. Answers where the next line begins.

@@ -1,4 +1,4 @@
-// Writes under tickets as they are meant to be used, and prints each answer. The edits in `must-fail` use a ticket once more than that.
+// Writes under tickets as they are meant to be used, and prints each answer. The changes in `tools/misuses` use a ticket once more than that.
 #![tactic(auto)]
 
 use book::{Book, Receipt, Step, Ticket};
