@@ -1,8 +1,8 @@
 #!/bin/sh
 # Tests the C call against cuereport, and the console. Variables, paths from the top of the repository:
-#   LIB       the static library; without it the library is built
+#   LIB        the static library; without it the library is built
 #   CUEREPORT  the program that is compared with; without it that is built too
-#   SHEETS    the folder of sheets (sheets)
+#   SHEETS     the folder of sheets (sheets)
 #   CC, CFLAGS, LDLIBS
 set -u
 cd "$(dirname "$0")/.." || exit 2

@@ -7,18 +7,21 @@ cd "$(dirname "$0")/.."
 dir=$(mktemp -d)
 trap 'rm -rf "$dir"' EXIT
 git archive HEAD crates crates.txt | tar -x -C "$dir"
+cp "$dir/crates/tickets/src/main.rt" "$dir/main.rt"
 status=0
 for misuse in tools/misuses/*.edit; do
-    python3 - "$misuse" crates/tickets/src/main.rt "$dir/crates/tickets/src/main.rt" <<'PY'
+    python3 - "$misuse" "$dir/main.rt" "$dir/crates/tickets/src/main.rt" <<'PY'
 import sys
 edit, program, to = sys.argv[1:]
 text = open(program, encoding="utf-8").read()
 lines = open(edit, encoding="utf-8").read().split("\n")
 old = [l[5:] for l in lines if l.startswith("old: ")]
 new = [l[5:] for l in lines if l.startswith("new: ")]
+if not old or len(old) != len(new):
+    sys.exit(f"{edit}: its old and new lines do not pair")
 for o, n in zip(old, new):
     if text.count(o) != 1:
-        sys.exit(f"{edit}: its old text stands {text.count(o)} times in {program}")
+        sys.exit(f"{edit}: its old text stands {text.count(o)} times in the program")
     text = text.replace(o, n)
 open(to, "w", encoding="utf-8").write(text)
 PY

@@ -83,7 +83,7 @@ writer-tells writes-either writes-from writes-meet writes-of writes-same writes-
 written-touched x-fresh zero-front zero-mark
 """.split()
 
-# A lemma that would get the name of a definition, or of the function whose contract it proves, ends in _lem. The last four had lost their dash before.
+# A lemma that would get the name of a definition, or of the function whose contract it proves, ends in _lem. Those in ONLY_ANTT had lost their dash before.
 LEMMAS = {
     "cycle-lasts": "cycle_lasts_lem",
     "first-break": "first_break_lem",
