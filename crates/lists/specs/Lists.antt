@@ -1,14 +1,13 @@
 -- Tests of a list, and searches in it. Assumes nothing.
 use Rattle.std.specs.Prelude.{ℕ, zero, suc, ◌+◌, Bool, true, false, cond, ◌&&◌, ◌||◌, List, [], ◌∷◌, ◌++◌, length, take, drop, Some, None, Option, nat_eq}
+use Rattle.std.specs.List.{list_any, list_all}
 
 module _ {X : Type 0} where
   abbrev pub every : (X → Bool) → List X → Bool
-  every test [] = true
-  every test (x ∷ xs) = test x && every test xs
+  every test xs = list_all test xs
 
   abbrev pub some : (X → Bool) → List X → Bool
-  some test [] = false
-  some test (x ∷ xs) = test x || some test xs
+  some test xs = list_any test xs
 
   abbrev pub or_else : Option X → Option X → Option X
   or_else None o = o
