@@ -5,7 +5,7 @@ ghost use Rattle.book.specs.Entering.{room, accepted, entered, grown, Lays};
 ghost use Rattle.book.specs.Tickets.{begun, stepped, under, closed, grown_by_ending};
 
 use crate::Book;
-use history::{Act, Ending, Entry, act_of, has_acted, is_cue};
+use history::{Act, Ending, Entry, has_acted, is_cue};
 use refusals::Refusal;
 
 // The right to write for one cue. It is moved and never copied, so that it is gone once it was used to end its cue.
@@ -85,7 +85,7 @@ impl<'a, K: Copy> Book<'a, K> {
         ensures grows { accepted self.new ≡ grown_by_ending result (under ticket (act_of ending)) (accepted self.old) }
         ensures lays { Lays self.old self.new }
     {
-        match self.enter(ticket.entry_of(act_of(ending))) {
+        match self.enter(ticket.entry_of(Act::from(ending))) {
             Ok(place) => Ok(Receipt { place, ending }),
             Err(refusal) => Err((ticket, refusal)),
         }

@@ -27,12 +27,14 @@ pub enum Ending {
 }
 
 // The act that ends a cue so.
-pub fn act_of<K>(ending: Ending) -> Act<K>
-    ensures { result ≡ act_of ending }
-{
-    match ending {
-        Ending::Commit => Act::Commit,
-        Ending::Abort => Act::Abort,
+impl<K> From<Ending> for Act<K> {
+    ghost from_gives = { λ f r. r ≡ act_of f };
+
+    fn from(ending: Ending) -> Act<K> {
+        match ending {
+            Ending::Commit => Act::Commit,
+            Ending::Abort => Act::Abort,
+        }
     }
 }
 
@@ -41,6 +43,14 @@ pub fn act_of<K>(ending: Ending) -> Act<K>
 pub struct Entry<K> {
     pub cue: u32,
     pub act: Act<K>,
+}
+
+impl<K> Entry<K> {
+    // What stands in memory where no entry has been accepted yet.
+    pub const FREE: Entry<K> = Entry {
+        cue: 0,
+        act: Act::Abort,
+    };
 }
 
 // Whether a number can be a cue's.
