@@ -4,7 +4,7 @@
 ghost use Rattle.std.specs.Prelude.{◌≡◌, ℕ, Bool, true};
 ghost use Rattle.history.specs.Conflicts.{conflict, writes};
 ghost use Rattle.history.specs.Endings.{act_of};
-ghost use Rattle.history.specs.Entries.{is_cue, acted, committed, ended, opened};
+ghost use Rattle.history.specs.Entries.{is_cue, is_commit, is_abort, ends, acted, committed, ended, opened};
 ghost use Rattle.history.specs.Marked.{marked};
 ghost use Rattle.history.specs.Sought.{admits};
 
@@ -17,6 +17,29 @@ pub enum Act<K> {
     Write(K),
     Commit,
     Abort,
+}
+
+impl<K> Act<K> {
+    // Whether it is a commit.
+    pub fn is_commit(&self) -> bool
+        ensures { result ≡ is_commit self.now }
+    {
+        matches!(self, Act::Commit)
+    }
+
+    // Whether it is an abort.
+    pub fn is_abort(&self) -> bool
+        ensures { result ≡ is_abort self.now }
+    {
+        matches!(self, Act::Abort)
+    }
+
+    // Whether it is a commit or an abort.
+    pub fn is_ending(&self) -> bool
+        ensures { result ≡ ends self.now }
+    {
+        matches!(self, Act::Commit | Act::Abort)
+    }
 }
 
 // How a cue ends.
