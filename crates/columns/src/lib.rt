@@ -1,7 +1,8 @@
 // Fields of fixed columns: what stands after leading blanks, and decimal numbers.
 #![tactic(auto)]
 
-ghost use Rattle.std.specs.Prelude.{◌≡◌, length};
+ghost use Rattle.std.specs.Prelude.{◌≡◌, ◌≤◌, ◌==◌, length};
+ghost use Rattle.std.specs.List.{prefix_len};
 ghost use Rattle.lists.specs.Lists.{every};
 ghost use Rattle.columns.specs.Symbols.{is};
 ghost use Rattle.columns.specs.Columns.{after_blanks, digits_from, number, up_to, number_in};
@@ -18,8 +19,8 @@ impl Symbol {
         ensures { result ≡ is self b }
     {
         match self {
-            Symbol::Digit => b'0' <= b && b <= b'9',
-            Symbol::Letter => (b'A' <= b && b <= b'Z') || (b'a' <= b && b <= b'z'),
+            Symbol::Digit => b.is_ascii_digit(),
+            Symbol::Letter => b.is_ascii_alphabetic(),
         }
     }
 
@@ -27,25 +28,23 @@ impl Symbol {
     pub fn fills(self, bytes: &[u8]) -> bool
         ensures { result ≡ every (is self) bytes.now }
     {
-        for b in bytes {
-            if !self.is(*b) {
-                return false;
-            }
-        }
-        true
+        bytes.iter().all(|b| self.is(*b))
     }
+}
+
+// How many blanks lead a field.
+fn leading_blanks(field: &[u8]) -> usize
+    ensures count { result ≡ prefix_len (λ b. b == 32) field.now }
+    ensures within { result ≤ length field.now }
+{
+    field.iter().take_while(|b| **b == b' ').count()
 }
 
 // The part of a field after its leading blanks.
 pub fn after_blanks(field: &[u8]) -> &[u8]
     ensures { result.now ≡ after_blanks field.now }
 {
-    for (i, b) in field.iter().enumerate() {
-        if *b != b' ' {
-            return &field[i..];
-        }
-    }
-    &field[field.len()..]
+    &field[leading_blanks(field)..]
 }
 
 // The number that digits stand for, where it is not above `most`.
@@ -54,7 +53,7 @@ fn value(digits: &[u8], most: u32) -> Option<u32>
 {
     let mut n = 0u64;
     for b in digits {
-        if *b < b'0' || *b > b'9' {
+        if !b.is_ascii_digit() {
             return None;
         }
         n = n * 10 + u64::from(*b - b'0');
@@ -80,14 +79,12 @@ pub fn read_number(field: &[u8], most: u32) -> Option<u32>
 pub fn write_number(n: u32, field: &mut [u8])
     ensures { field.new ≡ number_in (length field.old) n }
 {
-    let len = field.len();
-    let mut rest = n;
-    for at in (0..len).rev() {
-        field[at] = if rest == 0 && at + 1 < len {
-            b' '
+    if let Some((last, front)) = field.split_last_mut() {
+        *last = b'0' + (n % 10) as u8;
+        if n < 10 {
+            front.fill(b' ');
         } else {
-            b'0' + (rest % 10) as u8
-        };
-        rest /= 10;
+            write_number(n / 10, front);
+        }
     }
 }

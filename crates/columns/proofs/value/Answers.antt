@@ -1,28 +1,19 @@
-use Rattle.std.proofs.Common.{◌≡◌, ℕ, ◌+◌, ◌-◌, ◌*◌, ◌<◌, false, get_or, drop, sym, ap, ◌∙◌, arith}
-use Rattle.std.proofs.lemmas.Bool.{and_left, and_right, lt-leb}
-use Rattle.columns.specs.Symbols.{is_digit}
+use Rattle.std.proofs.Common.{ℕ, ◌+◌, ◌-◌, ◌*◌, ◌<◌, get_or, drop, sym, ap, ◌∙◌, arith}
 use Rattle.columns.specs.Columns.{digits_from, up_to}
 use Rattle.columns.proofs.Numbers.{digit_more, digit_stop, digit_end, digits_over, up_to_within}
 use Rattle.columns.proofs.value.Goals as goal
-use Rattle.columns.proofs.value.Goals.{then-b-lt48-via-then-b-lt48, then-b-lt48-via-else-b-lt48+then-b-gt57}
 
-pub returns-then-b-lt48 : goal.returns-then-b-lt48
-returns-then-b-lt48 c =
+pub returns-then-not-is_ascii_digit : goal.returns-then-not-is_ascii_digit
+returns-then-not-is_ascii_digit c =
     let ds = c.args.digits.now in
-    let d = get_or ds c.loop-b.b-index 0 in
-    let out : is_digit d ≡ false =
-    elim c.then-b-lt48.branch [
-      | then-b-lt48-via-then-b-lt48 w ↦ and_left _ _ (lt-leb 48 d w.if-b-lt48.true)
-      | then-b-lt48-via-else-b-lt48+then-b-gt57 w ↦ and_right _ _ (lt-leb d 57 w.if-b-gt57.true)
-    ] in
-    sym (ap (up_to c.args.most) (digit_stop c.loop-b.n ds c.loop-b.b-index c.loop-b-test.true out)) ∙ c.loop-b.invariant.0
+    sym (ap (up_to c.args.most) (digit_stop c.loop-b.n ds c.loop-b.b-index c.loop-b-test.true (sym c.if-not-is_ascii_digit.ensures.value))) ∙ c.loop-b.invariant.0
 
 pub returns-then-n-from : goal.returns-then-n-from
 returns-then-n-from c =
     let ds = c.args.digits.now in
     let i = c.loop-b.b-index in
     let over : c.args.most < c.loop-b.n * 10 + (get_or ds i 0 - 48) = omega (arith, c.from.ensures, c.from-in-loop-b.ensures) in
-    sym (ap (up_to c.args.most) (digit_more c.loop-b.n ds i c.loop-b-test.true c.if-b-lt48.false c.if-b-gt57.false) ∙ digits_over _ _ (drop (i + 1) ds) over)
+    sym (ap (up_to c.args.most) (digit_more c.loop-b.n ds i c.loop-b-test.true (sym c.if-not-is_ascii_digit.ensures.value)) ∙ digits_over _ _ (drop (i + 1) ds) over)
     ∙ c.loop-b.invariant.0
 
 pub loop-b-preserved : goal.loop-b-preserved
@@ -30,7 +21,7 @@ loop-b-preserved c =
     let ds = c.args.digits.now in
     let i = c.loop-b.b-index in (
       ap (λ (d : ℕ). up_to c.args.most (digits_from (c.loop-b.n * 10 + d) (drop (i + 1) ds))) c.from.ensures
-          ∙ sym (ap (up_to c.args.most) (digit_more c.loop-b.n ds i c.loop-b-test.true c.if-b-lt48.false c.if-b-gt57.false))
+          ∙ sym (ap (up_to c.args.most) (digit_more c.loop-b.n ds i c.loop-b-test.true (sym c.if-not-is_ascii_digit.ensures.value)))
           ∙ c.loop-b.invariant.0,
       omega (arith, c.from-in-loop-b.ensures),
     )
