@@ -1,7 +1,7 @@
 -- Leading blanks, and texts in columns. Assumes nothing.
 use Rattle.std.proofs.Common.{◌≡◌, ℕ, zero, suc, ◌+◌, ◌-◌, ◌≤◌, Bool, true, false, cond, eqb, List, [], ◌∷◌, ◌++◌, length, drop, replicate, sym, refl, ap, ◌∙◌, subst, inl, inr, append_assoc, append-nil, one-add, arith}
 use Rattle.std.specs.List.{prefix_len}
-use Rattle.std.proofs.lemmas.List.{drop-append-le, drop_all, drop_at, drop-replicate, length-append, length-drop, length-replicate}
+use Rattle.std.proofs.lemmas.List.{drop-append-le, drop_at, drop-replicate, length-append, length-drop, length-replicate}
 use Rattle.std.proofs.lemmas.Bool.{both_ways, eqb-true, ne_eqb, cases_Bool, cond-true, cond-false}
 use Rattle.lists.specs.Lists.{every}
 use Rattle.lists.proofs.Every.{every_rest}
@@ -42,10 +42,7 @@ pub after_blanks_replicate : (n : ℕ) (bs : List ℕ) → after_blanks (replica
 after_blanks_replicate zero bs = refl
 after_blanks_replicate (suc n) bs = after_blanks_replicate n bs
 
--- a text in no columns, and no text
-pub justified_zero : (bs : List ℕ) → justified 0 bs ≡ []
-justified_zero bs = drop_all (length bs) bs (omega arith)
-
+-- no text
 pub justified_none : (w : ℕ) → justified w [] ≡ replicate w 32
 justified_none w = append-nil (replicate w 32)
 

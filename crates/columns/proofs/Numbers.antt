@@ -1,8 +1,8 @@
 -- Decimal numbers in columns. Assumes nothing.
-use Rattle.std.proofs.Common.{◌≡◌, ℕ, suc, ◌+◌, ◌-◌, ◌*◌, ◌/◌, ◌%◌, ◌^◌, ◌<◌, ◌≤◌, Bool, true, false, cond, not, ◌&&◌, eqb, leb, List, [], ◌∷◌, ◌++◌, length, get_or, drop, set, replicate, Some, None, decimal, Option, sym, refl, ap, ◌∙◌, inl, inr, append_assoc, arith, rules}
+use Rattle.std.proofs.Common.{◌≡◌, ℕ, suc, ◌+◌, ◌-◌, ◌*◌, ◌/◌, ◌%◌, ◌^◌, ◌<◌, ◌≤◌, Bool, true, false, cond, not, ◌&&◌, eqb, leb, List, [], ◌∷◌, ◌++◌, length, get_or, drop, replicate, Some, None, decimal, Option, sym, refl, ap, ◌∙◌, inl, inr, arith, rules}
 use Rattle.std.proofs.lemmas.Str.Parse.{IsNumeralModel, numerals_by_fold, digits_value_short}
 use Rattle.std.proofs.lemmas.Fmt.{decimal_nonempty, first_decimal, decimal_digit, decimal_step, length-decimal-le, digits_decimal, digits_value-decimal, decimal-digits_value}
-use Rattle.std.proofs.lemmas.List.{at_drop_more, at_drop_all, drop-set}
+use Rattle.std.proofs.lemmas.List.{at_drop_more, at_drop_all}
 use Rattle.std.proofs.lemmas.Bool.{false≢true, and_parts, and_from, eqb-false, ne_eqb, not-true, not_from_false, leb-true, lt-leb, le-leb, cases_Bool, cases_lt, cond-true, cond-false}
 use Rattle.lists.specs.Lists.{every}
 use Rattle.columns.specs.Symbols.{is_digit}
@@ -129,15 +129,6 @@ pub number_in_more : (w k n : ℕ) → k + 1 ≡ w → 10 ≤ n → n < 2 ^ 64 �
 number_in_more w k n more big h =
     let next : w ≡ suc k = omega arith in
     ap (λ (a : ℕ). number_in a n) next ∙ ap (justified (suc k)) (decimal_step n big h) ∙ justified_push k (decimal (n / 10)) (48 + n % 10)
-
--- one column more is written
-pub column_more : (rest more : List ℕ) (b at : ℕ) (field whole : List ℕ) → 0 < at → at ≤ length field → rest ≡ more ++ b ∷ [] → rest ++ drop at field ≡ whole → more ++ drop (at - 1) (set field (at - 1) b) ≡ whole
-column_more rest more b at field whole some within e h =
-    let same : at - 1 + 1 ≡ at = omega arith in
-    ap (λ (xs : List ℕ). more ++ xs) (drop-set field (at - 1) b (omega arith) ∙ ap (λ (n : ℕ). b ∷ drop n field) same)
-    ∙ sym (append_assoc more (b ∷ []) (drop at field))
-    ∙ ap (λ (xs : List ℕ). xs ++ drop at field) (sym e)
-    ∙ h
 
 -- the number in a field of k columns has at most k digits
 pub number_fits : (k : ℕ) (bs : List ℕ) → length bs ≤ k → up_to (10 ^ k - 1) (number bs) ≡ number bs

@@ -59,7 +59,7 @@ pub trait Exact: Item {
 }
 
 // A machine axis: a number from 0 to 65535.
-#[derive(Clone, Copy, Debug)]
+#[derive(Clone, Copy, PartialEq, Eq, Debug)]
 pub struct Axis {
     pub number: u16,
 }
@@ -90,14 +90,11 @@ impl Item for Axis {
         subst (Reads (axis_alike a)) (sym e) (eq-eqb n (n % 65536) (omega arith)) };
 
     fn same(self, other: Axis) -> bool {
-        self.number == other.number
+        self == other
     }
 
     fn read(field: &[u8; 8]) -> Option<Axis> {
-        match read_number(field, 65535) {
-            Some(n) => Some(Axis { number: n as u16 }),
-            None => None,
-        }
+        read_number(field, 65535).map(|n| Axis { number: n as u16 })
     }
 
     fn write(self, field: &mut [u8; 8]) {
@@ -163,6 +160,18 @@ fn word_number(word: &[u8]) -> Option<u64>
     Some(number)
 }
 
+// Writes the word with a number into a field, right-justified after blanks.
+fn write_word(n: u64, field: &mut [u8])
+    ensures { field.new ≡ justified (length field.old) (Words.word (length field.old) n) }
+{
+    if n == 0 {
+        field.fill(b' ');
+    } else if let Some((last, front)) = field.split_last_mut() {
+        *last = letter(((n - 1) % 52 + 1) as u8);
+        write_word((n - 1) / 52, front);
+    }
+}
+
 impl Item for Mark {
     ghost alike = { mark_alike };
 
@@ -219,15 +228,7 @@ impl Item for Mark {
 
     // Words are numbered from 1, marks from 0.
     fn write(self, field: &mut [u8; 8]) {
-        let mut rest = self.number % WORDS + 1;
-        for at in (0..8).rev() {
-            if rest == 0 {
-                field[at] = b' ';
-            } else {
-                field[at] = letter(((rest - 1) % 52 + 1) as u8);
-                rest = (rest - 1) / 52;
-            }
-        }
+        write_word(self.number % WORDS + 1, field);
     }
 }
 
