@@ -1,4 +1,5 @@
 pub mod By
 pub mod Committed
 pub mod Endings
+pub mod Made
 pub mod Marks

@@ -1,6 +1,5 @@
 pub mod Entries
 pub mod Endings
-pub mod Sought
 pub mod Marked
 pub mod Conflicts
 pub mod Order

@@ -6,7 +6,6 @@ ghost use Rattle.history.specs.Conflicts.{conflict, writes};
 ghost use Rattle.history.specs.Endings.{act_of};
 ghost use Rattle.history.specs.Entries.{is_cue, is_commit, is_abort, ends, acted, committed, ended, opened};
 ghost use Rattle.history.specs.Marked.{marked};
-ghost use Rattle.history.specs.Sought.{admits};
 
 use items::Item;
 
@@ -80,74 +79,35 @@ impl<K> Entry<K> {
 pub fn is_cue(n: u32) -> bool
     ensures { result ≡ is_cue n }
 {
-    1 <= n && n <= 64
-}
-
-// Which of a cue's entries a search is for.
-#[derive(Clone, Copy)]
-pub enum Sought {
-    Any,
-    Commit,
-    Abort,
-    // A commit or an abort.
-    Ending,
-}
-
-// Whether the act is such a one.
-pub fn admitted<K>(sought: Sought, act: &Act<K>) -> bool
-    ensures { result ≡ admits sought act.now }
-{
-    match (sought, act) {
-        (Sought::Any, _) => true,
-        (Sought::Commit, Act::Commit) => true,
-        (Sought::Abort, Act::Abort) => true,
-        (Sought::Ending, Act::Commit) => true,
-        (Sought::Ending, Act::Abort) => true,
-        _ => false,
-    }
-}
-
-// Whether the cue has such an entry.
-fn has_entry<K>(entries: &[Entry<K>], cue: u32, sought: Sought) -> bool
-    ensures { result ≡ acted (admits sought) entries.now cue }
-{
-    if !is_cue(cue) {
-        return false;
-    }
-    for e in entries {
-        if e.cue == cue && admitted(sought, &e.act) {
-            return true;
-        }
-    }
-    false
+    (1..=64).contains(&n)
 }
 
 // Whether the cue has an entry.
 pub fn has_acted<K>(entries: &[Entry<K>], cue: u32) -> bool
     ensures { result ≡ acted (λ a. true) entries.now cue }
 {
-    has_entry(entries, cue, Sought::Any)
+    is_cue(cue) && entries.iter().any(|e| e.cue == cue)
 }
 
 // Whether the cue has a commit.
 pub fn is_committed<K>(entries: &[Entry<K>], cue: u32) -> bool
     ensures { result ≡ committed entries.now cue }
 {
-    has_entry(entries, cue, Sought::Commit)
+    is_cue(cue) && entries.iter().any(|e| e.cue == cue && e.act.is_commit())
 }
 
 // Whether the cue has a commit or an abort.
 pub fn has_ended<K>(entries: &[Entry<K>], cue: u32) -> bool
     ensures { result ≡ ended entries.now cue }
 {
-    has_entry(entries, cue, Sought::Ending)
+    is_cue(cue) && entries.iter().any(|e| e.cue == cue && e.act.is_ending())
 }
 
 // Whether the cue has an entry and has not ended.
 pub fn is_open<K>(entries: &[Entry<K>], cue: u32) -> bool
     ensures { result ≡ opened entries.now cue }
 {
-    has_entry(entries, cue, Sought::Any) && !has_ended(entries, cue)
+    has_acted(entries, cue) && !has_ended(entries, cue)
 }
 
 // Whether the table has the cue.
@@ -161,21 +121,14 @@ pub fn is_marked(cues: &[bool; 64], n: u32) -> bool
 pub fn committed_cues<K>(entries: &[Entry<K>]) -> [bool; 64]
     ensures { (n : ℕ) → marked result n ≡ committed entries.now n }
 {
-    let mut cues = [false; 64];
-    for n in 1..65u32 {
-        cues[n as usize - 1] = is_committed(entries, n);
-    }
-    cues
+    std::array::from_fn(|i| is_committed(entries, i as u32 + 1))
 }
 
 // Whether the act writes an item that is the same as `item`.
 pub fn writes_item<K: Item>(act: &Act<K>, item: K) -> bool
     ensures { result ≡ writes (K.Item.alike item) act.now }
 {
-    match act {
-        Act::Write(other) => item.same(*other),
-        _ => false,
-    }
+    matches!(act, Act::Write(other) if item.same(*other))
 }
 
 // Whether two entries conflict: they are of different cues, their items are the same, and one of them is a write.
@@ -186,9 +139,9 @@ pub fn conflicts<K: Item>(x: &Entry<K>, y: &Entry<K>) -> bool
         return false;
     }
     match (&x.act, &y.act) {
-        (Act::Read(a), Act::Write(b)) => (*a).same(*b),
-        (Act::Write(a), Act::Read(b)) => (*a).same(*b),
-        (Act::Write(a), Act::Write(b)) => (*a).same(*b),
+        (Act::Read(a), Act::Write(b)) | (Act::Write(a), Act::Read(b) | Act::Write(b)) => {
+            a.same(*b)
+        }
         _ => false,
     }
 }
