@@ -29,10 +29,8 @@ impl<'a> Field<'a> {
         ensures bytes { result.bytes.now ≡ (seen self.entry).bytes }
     {
         match self {
-            Field::Digits(part) => part,
-            Field::Letters(part) => part,
-            Field::Blanks(part) => part,
-            Field::Other(part) => part,
+            Field::Digits(part) | Field::Letters(part) | Field::Blanks(part) | Field::Other(part) =>
+                part,
         }
     }
 }
@@ -67,15 +65,7 @@ fn field_at(column: usize, bytes: &[u8]) -> Field<'_>
 fn is_whole(sheet: &[u8]) -> bool
     ensures { result ≡ whole sheet.now }
 {
-    if sheet.len() < LINE {
-        return false;
-    }
-    for b in &sheet[0..15] {
-        if *b == b'\n' {
-            return false;
-        }
-    }
-    sheet[15] == b'\n'
+    sheet.len() >= LINE && !sheet[..15].contains(&b'\n') && sheet[15] == b'\n'
 }
 
 // Whether the columns beside the letter are blank.

@@ -3,7 +3,7 @@ ghost use Rattle.std.specs.Prelude.{◌≡◌, length, if◌then◌else◌, Ok, 
 ghost use Rattle.std.specs.Option.{ok_or};
 ghost use Rattle.refusals.specs.declared.LineRefusal.TheVariants.{CueField, ItemField};
 ghost use Rattle.columns.specs.Columns.{number};
-ghost use Rattle.lines.specs.Cutting.{filling, WellCut, seen, viewed};
+ghost use Rattle.lines.specs.Cutting.{WellCut, seen, viewed};
 ghost use Rattle.lines.specs.Reading.{blank, act_in, entry_in, next_in};
 
 use crate::cuts::{Field, Fields, cut};
@@ -12,83 +12,81 @@ use history::{Act, Entry};
 use items::Item;
 use refusals::LineRefusal;
 
-// The number in a cue field, which has four columns.
-fn cue_number(field: Field<'_>) -> Result<u32, LineRefusal>
-    requires filled { (seen field).filled ≡ filling (seen field).bytes }
-    requires four { length (seen field).bytes ≡ 4 }
-    ensures { result ≡ ok_or (number (seen field.entry).bytes) CueField }
-{
-    match field {
-        Field::Digits(part) => read_number(part.bytes, 9999).ok_or(LineRefusal::CueField),
-        Field::Letters(_) => Err(LineRefusal::CueField),
-        Field::Blanks(_) => Err(LineRefusal::CueField),
-        Field::Other(_) => Err(LineRefusal::CueField),
-    }
+// The fields of a line as it was cut: those that are read are as wide as a line's, and hold what their cases say.
+#[derive(Clone, Copy)]
+struct Line<'a> {
+    fields: Fields<'a>,
+    ghost well: { WellCut (viewed fields) },
 }
 
-// The item in an item field.
-fn read_item<K: Item>(field: Field<'_>) -> Result<K, LineRefusal>
-    requires { length (seen field).bytes ≡ 8 }
-    ensures { result ≡ ok_or (K.Item.parsed (seen field.entry).bytes) ItemField }
-{
-    let mut bytes = [b' '; 8];
-    bytes.copy_from_slice(field.part().bytes);
-    K::read(&bytes).ok_or(LineRefusal::ItemField)
-}
-
-// That an item field is blank.
-fn read_none(field: Field<'_>) -> Result<(), LineRefusal>
-    requires { (seen field).filled ≡ filling (seen field).bytes }
-    ensures { result ≡ (if blank (seen field.entry).bytes then Ok tt else Err ItemField) }
-{
-    match field {
-        Field::Blanks(_) => Ok(()),
-        Field::Digits(_) => Err(LineRefusal::ItemField),
-        Field::Letters(_) => Err(LineRefusal::ItemField),
-        Field::Other(_) => Err(LineRefusal::ItemField),
-    }
-}
-
-// The act that a letter and an item field say.
-fn read_act<K: Item>(letter: u8, field: Field<'_>) -> Result<Act<K>, LineRefusal>
-    requires filled { (seen field).filled ≡ filling (seen field).bytes }
-    requires eight { length (seen field).bytes ≡ 8 }
-    ensures { result ≡ act_in K.Item.parsed letter (seen field.entry).bytes }
-{
-    match letter as char {
-        'r' => Ok(Act::Read(read_item(field)?)),
-        'w' => Ok(Act::Write(read_item(field)?)),
-        'c' => {
-            read_none(field)?;
-            Ok(Act::Commit)
+impl Line<'_> {
+    // The number in the cue field.
+    fn cue(self) -> Result<u32, LineRefusal>
+        ensures { result ≡ ok_or (number (seen self.entry.fields.cue).bytes) CueField }
+    {
+        match self.fields.cue {
+            Field::Digits(part) => read_number(part.bytes, 9999).ok_or(LineRefusal::CueField),
+            _ => Err(LineRefusal::CueField),
         }
-        'a' => {
-            read_none(field)?;
-            Ok(Act::Abort)
+    }
+
+    // The item in the item field.
+    fn item<K: Item>(self) -> Result<K, LineRefusal>
+        ensures { result ≡ ok_or (K.Item.parsed (seen self.entry.fields.item).bytes) ItemField }
+    {
+        let mut bytes = [b' '; 8];
+        bytes.copy_from_slice(self.fields.item.part().bytes);
+        K::read(&bytes).ok_or(LineRefusal::ItemField)
+    }
+
+    // That the item field is blank.
+    fn no_item(self) -> Result<(), LineRefusal>
+        ensures { result ≡ (if blank (seen self.entry.fields.item).bytes then Ok tt else Err ItemField) }
+    {
+        match self.fields.item {
+            Field::Blanks(_) => Ok(()),
+            _ => Err(LineRefusal::ItemField),
         }
-        _ => Err(LineRefusal::Letter),
     }
-}
 
-// The letter that a field holds.
-fn letter_in(field: Field<'_>) -> u8
-    ensures { result ≡ slice_index (seen field.entry).bytes 0 }
-{
-    let bytes = field.part().bytes;
-    if bytes.is_empty() { 0 } else { bytes[0] }
-}
-
-// The entry that the fields of a line say.
-fn read_fields<K: Item>(fields: Fields<'_>) -> Result<Entry<K>, LineRefusal>
-    requires { WellCut (viewed fields) }
-    ensures { result ≡ entry_in K.Item.parsed (viewed fields.entry) }
-{
-    let cue = cue_number(fields.cue)?;
-    if !fields.spaced {
-        return Err(LineRefusal::Letter);
+    // The letter, or 0 where the field has no column.
+    fn letter(self) -> u8
+        ensures { result ≡ slice_index (seen self.entry.fields.letter).bytes 0 }
+    {
+        let bytes = self.fields.letter.part().bytes;
+        bytes.first().copied().unwrap_or(0)
     }
-    let act = read_act(letter_in(fields.letter), fields.item)?;
-    Ok(Entry { cue, act })
+
+    // The act that the letter and the item field say.
+    fn act<K: Item>(self) -> Result<Act<K>, LineRefusal>
+        ensures { result ≡ act_in K.Item.parsed (slice_index (seen self.entry.fields.letter).bytes 0) (seen self.entry.fields.item).bytes }
+    {
+        match self.letter() as char {
+            'r' => Ok(Act::Read(self.item()?)),
+            'w' => Ok(Act::Write(self.item()?)),
+            'c' => {
+                self.no_item()?;
+                Ok(Act::Commit)
+            }
+            'a' => {
+                self.no_item()?;
+                Ok(Act::Abort)
+            }
+            _ => Err(LineRefusal::Letter),
+        }
+    }
+
+    // The entry that the fields say.
+    fn entry<K: Item>(self) -> Result<Entry<K>, LineRefusal>
+        ensures { result ≡ entry_in K.Item.parsed (viewed self.entry.fields) }
+    {
+        let cue = self.cue()?;
+        if !self.fields.spaced {
+            return Err(LineRefusal::Letter);
+        }
+        let act = self.act()?;
+        Ok(Entry { cue, act })
+    }
 }
 
 // Reads the first line of what remains of a sheet; `None` at the end.
@@ -97,6 +95,6 @@ pub fn read_line<K: Item>(sheet: &[u8]) -> Result<Option<Entry<K>>, LineRefusal>
 {
     match cut(sheet)? {
         None => Ok(None),
-        Some(fields) => Ok(Some(read_fields(fields)?)),
+        Some(fields) => Ok(Some(Line { fields }.entry()?)),
     }
 }

@@ -27,10 +27,8 @@ fn item_of<K: Item>(act: &Act<K>) -> [u8; 8]
 {
     let mut field = [b' '; 8];
     match act {
-        Act::Read(item) => (*item).write(&mut field),
-        Act::Write(item) => (*item).write(&mut field),
-        Act::Commit => {}
-        Act::Abort => {}
+        Act::Read(item) | Act::Write(item) => item.write(&mut field),
+        Act::Commit | Act::Abort => {}
     }
     field
 }

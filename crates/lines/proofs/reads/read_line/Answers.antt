@@ -17,22 +17,22 @@ returns-in_err-cut g c =
     let p = err_from_is_err_and c.from_residual.result c.from_residual.ensures.1 in
     p.1 ∙ ap Err p.2 ∙ sym (next_bad g.K.Item.parsed c.args.sheet.now _ (sym c.cut.ensures ∙ ap viewed_cut c.in_err-cut.was))
 
-pub read_fields-requires : goal.read_fields-requires
-read_fields-requires g c = cut_well c.args.sheet.now _ (cut_some g c)
+pub invariant_of-entry : goal.invariant_of-entry
+invariant_of-entry g c = record { well = cut_well c.args.sheet.now _ (cut_some g c) }
 
-pub returns-in_err-read_fields-in-Some : goal.returns-in_err-read_fields-in-Some
-returns-in_err-read_fields-in-Some g c =
-    let p = err_from_is_err_and c.from_residual-in_err-read_fields-in-Some.result c.from_residual-in_err-read_fields-in-Some.ensures.1 in
-    let at = (goal.at.returns-in_err-read_fields-in-Some g c).In-Some in
+pub returns-in_err-entry-in-Some : goal.returns-in_err-entry-in-Some
+returns-in_err-entry-in-Some g c =
+    let p = err_from_is_err_and c.from_residual-in_err-entry-in-Some.result c.from_residual-in_err-entry-in-Some.ensures.1 in
+    let at = (goal.at.returns-in_err-entry-in-Some g c).In-Some in
     p.1
     ∙ ap Err p.2
-    ∙ sym (next_line g.K.Item.parsed c.args.sheet.now (viewed c.in-Some.fields) (Err c.in_err-read_fields-in-Some.field-0.0) (cut_some g at) (sym c.in_err-read_fields-in-Some.ensures))
+    ∙ sym (next_line g.K.Item.parsed c.args.sheet.now (viewed c.in-Some.fields) (Err c.in_err-entry-in-Some.field-0.0) (cut_some g at) (sym c.in_err-entry-in-Some.ensures))
 
 pub returns-in-None : goal.returns-in-None
 returns-in-None g c =
     sym (next_end g.K.Item.parsed c.args.sheet.now (sym c.cut.ensures ∙ ap viewed_cut (c.in_ok-cut.was ∙ ap Ok c.in-None.is)))
 
-pub returns-in_ok-read_fields-in-Some : goal.returns-in_ok-read_fields-in-Some
-returns-in_ok-read_fields-in-Some g c =
-    let at = (goal.at.returns-in_ok-read_fields-in-Some g c).In-Some in
-    sym (next_line g.K.Item.parsed c.args.sheet.now (viewed c.in-Some.fields) (Ok c.in_ok-read_fields-in-Some.field-0) (cut_some g at) (sym c.in_ok-read_fields-in-Some.ensures))
+pub returns-in_ok-entry-in-Some : goal.returns-in_ok-entry-in-Some
+returns-in_ok-entry-in-Some g c =
+    let at = (goal.at.returns-in_ok-entry-in-Some g c).In-Some in
+    sym (next_line g.K.Item.parsed c.args.sheet.now (viewed c.in-Some.fields) (Ok c.in_ok-entry-in-Some.field-0) (cut_some g at) (sym c.in_ok-entry-in-Some.ensures))
