@@ -1,7 +1,7 @@
 // What cues read and write: the trait of a kind of item, and the two kinds.
 #![tactic(auto)]
 
-ghost use Rattle.std.specs.Prelude.{◌≡◌, ℕ, ◌+◌, ◌-◌, ◌%◌, ◌≤◌, Bool, true, List, map, length, if◌then◌else◌, Some, None, decimal, Option};
+ghost use Rattle.std.specs.Prelude.{◌≡◌, ◌==◌, ℕ, ◌+◌, ◌-◌, ◌%◌, ◌≤◌, Bool, true, List, map, length, if◌then◌else◌, Some, None, decimal, Option};
 ghost use Rattle.std.proofs.Common.{sym, ap, subst, ◌∙◌, arith, rules};
 ghost use Rattle.items.specs.Fields.{Eight, Reads};
 ghost use Rattle.lists.specs.Lists.{every};
@@ -140,11 +140,11 @@ fn letter(value: u8) -> u8
     }
 }
 
-// A byte with the case of a letter ignored.
-fn fold(byte: u8) -> u8
-    ensures { result ≡ folded byte }
+// Whether two letters are the same, with case ignored.
+fn same_letter(a: u8, b: u8) -> bool
+    ensures { result ≡ (folded a == folded b) }
 {
-    byte.to_ascii_lowercase()
+    a.eq_ignore_ascii_case(&b)
 }
 
 // The number of a word, where each byte is a letter.
@@ -208,7 +208,7 @@ impl Item for Mark {
         while mine > 0 && theirs > 0 {
             let last = letter(((mine - 1) % 52 + 1) as u8);
             let their_last = letter(((theirs - 1) % 52 + 1) as u8);
-            if fold(last) != fold(their_last) {
+            if !same_letter(last, their_last) {
                 return false;
             }
             mine = (mine - 1) / 52;

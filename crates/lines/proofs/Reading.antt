@@ -14,19 +14,9 @@ module _ {K : Type 0} (parsed : List ℕ → Option K) (l : CutLine) where
   no_cue None f e = let is : CueField ≡ f = cc in ap Err is
   no_cue (Some n) f e = absurd (let z : ◌≡◌ {A = ℕ} 0 1 = cc in omega arith)
 
-  with_cue : (o : Option ℕ) (n : ℕ) → ok_or {E = LineRefusal} o CueField ≡ Ok n → o ≡ Some n
-  with_cue None n e = absurd (let z : ◌≡◌ {A = ℕ} 0 1 = cc in omega arith)
-  with_cue (Some m) n e = let is : m ≡ n = cc in ap Some is
-
   -- no number in the cue field
   pub entry_no_cue : (f : LineRefusal) → ok_or (number l.cue.bytes) CueField ≡ Err f → entry_in parsed l ≡ Err f
   entry_no_cue f e = no_cue (number l.cue.bytes) f e
-
-  -- a number there, and a blank on both sides of the letter
-  pub entry_with_cue : (n : ℕ) (r : Result (Act K) LineRefusal) → ok_or (number l.cue.bytes) CueField ≡ Ok n → l.spaced ≡ true → act_in parsed (get_or l.letter.bytes 0 0) l.item.bytes ≡ r → entry_in parsed l ≡ of_cue n r
-  entry_with_cue n r e s a =
-      ap (after_cue parsed l) (with_cue (number l.cue.bytes) n e)
-      ∙ (λ i. cond (s i) (of_cue n (a i)) (Err Letter))
 
 module _ {K : Type 0} (parsed : List ℕ → Option K) where
   -- what follows from the line that was cut, or from the end

@@ -1,19 +1,20 @@
 use Rattle.std.proofs.Common.{sym, ap, ◌∙◌, inl, inr, arith}
+use Rattle.std.proofs.lemmas.Bool.{eqb-false, eqb-true}
 use Rattle.items.specs.Words.{folded}
 use Rattle.items.specs.WordsLemmas.{last_agree, last_differ, none_same}
 use Rattle.items.proofs.MarkItem.same.Goals as goal
 use Rattle.items.proofs.MarkItem.same.Goals.{then-loop-mine-test+else-theirs-gt0, else-loop-mine-test}
 
-pub returns-then-fold : goal.returns-then-fold
-returns-then-fold c =
+pub returns-then-not-same_letter : goal.returns-then-not-same_letter
+returns-then-not-same_letter c =
     sym (last_differ c.loop-mine.mine c.loop-mine.theirs c.loop-mine-test.true c.if-theirs-gt0.true c.loop-mine.invariant.1 c.loop-mine.invariant.2
-    (λ e. c.if-fold.true (c.fold.ensures ∙ ap folded c.letter-last.ensures ∙ e ∙ sym (c.fold-in-loop-mine.ensures ∙ ap folded c.letter-their_last.ensures))))
+    (λ e. eqb-false _ _ (sym c.if-not-same_letter.ensures) (ap folded c.letter-last.ensures ∙ e ∙ sym (ap folded c.letter-their_last.ensures))))
     ∙ c.loop-mine.invariant.0
 
 pub loop-mine-preserved : goal.loop-mine-preserved
 loop-mine-preserved c = (
   last_agree c.loop-mine.mine c.loop-mine.theirs c.loop-mine-test.true c.if-theirs-gt0.true c.loop-mine.invariant.1 c.loop-mine.invariant.2
-      (sym (c.fold.ensures ∙ ap folded c.letter-last.ensures) ∙ c.if-fold.false ∙ c.fold-in-loop-mine.ensures ∙ ap folded c.letter-their_last.ensures)
+      (sym (ap folded c.letter-last.ensures) ∙ eqb-true _ _ (sym c.if-not-same_letter.ensures) ∙ ap folded c.letter-their_last.ensures)
       ∙ c.loop-mine.invariant.0,
   omega (arith, c.loop-mine.invariant.1),
   omega (arith, c.loop-mine.invariant.2),
