@@ -1,13 +1,12 @@
 -- The steps of reading a line. Assumes nothing.
-use Rattle.std.proofs.Common.{◌≡◌, ℕ, Bool, true, false, cond, List, [], ◌∷◌, get_or, Some, None, Ok, Err, Option, Result, refl, ap, ◌∙◌, arith}
+use Rattle.std.proofs.Common.{◌≡◌, ℕ, Bool, true, false, cond, List, [], ◌∷◌, Some, None, Ok, Err, Option, Result, refl, ap, ◌∙◌, arith}
 use Rattle.std.specs.Option.{ok_or}
 use Rattle.refusals.specs.declared.LineRefusal.{LineRefusal}
-use Rattle.refusals.specs.declared.LineRefusal.TheVariants.{Shape, CueField, Letter}
-use Rattle.history.specs.declared.Act.{Act}
+use Rattle.refusals.specs.declared.LineRefusal.TheVariants.{Shape, CueField}
 use Rattle.history.specs.declared.Entry.{Entry}
 use Rattle.columns.specs.Columns.{number}
 use Rattle.lines.specs.Cutting.{CutLine, whole, line_cut, cut_of}
-use Rattle.lines.specs.Reading.{of_cue, act_in, after_cue, entry_in, some, next_in}
+use Rattle.lines.specs.Reading.{after_cue, entry_in, some, next_in}
 
 module _ {K : Type 0} (parsed : List ℕ → Option K) (l : CutLine) where
   no_cue : (o : Option ℕ) (f : LineRefusal) → ok_or o CueField ≡ Err f → after_cue parsed l o ≡ Err f
