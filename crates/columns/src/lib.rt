@@ -47,7 +47,7 @@ pub fn after_blanks(field: &[u8]) -> &[u8]
     &field[leading_blanks(field)..]
 }
 
-// The number that digits stand for, where it is not above `most`.
+// The number that digits stand for, where it is not above `most`. By hand, since the library's `parse` takes a leading plus too.
 fn value(digits: &[u8], most: u32) -> Option<u32>
     ensures { result ≡ up_to most (digits_from 0 digits.now) }
 {
