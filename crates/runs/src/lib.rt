@@ -4,7 +4,8 @@
 ghost use Rattle.std.specs.Prelude.{◌≡◌, ◌<◌, min, length, take};
 ghost use Rattle.book.specs.Entering.{room, accepted, Lays};
 ghost use Rattle.serial.specs.Why.{why_answer};
-ghost use Rattle.runs.specs.Answers.{OrderRight, ViewsRight};
+ghost use Rattle.runs.specs.declared.Failure.TheVariants.{Refused, Fault};
+ghost use Rattle.runs.specs.Answers.{cues_of, OrderRight, ViewsRight};
 ghost use Rattle.runs.specs.Runs.{State, is_given, place_or, why_or, Done, wanted, Ran};
 
 use book::{Book, ReadFault, Step, Ticket};
@@ -14,10 +15,10 @@ use items::Item;
 use recovery::Class;
 use refusals::Refusal;
 use serial::Pair;
-use std::mem;
+use std::fmt;
 
 // One call on a book. A ticket goes by its number: the first that is given is 1.
-#[derive(Drop)]
+#[derive(Clone, Copy)]
 pub enum Call<'a, K> {
     Enter(Entry<K>),
     ReadIn(&'a [u8]),
@@ -30,11 +31,19 @@ pub enum Call<'a, K> {
     Why(u32, u32),
 }
 
-// Cues in their order: the first `count` cells.
+// Cues in their order: the first `count` cells. The memory is fixed, since an answer owns its cues and there is no heap.
 #[derive(Clone, Copy)]
 pub struct Cues {
     pub list: [u32; 64],
     pub count: usize,
+}
+
+impl Cues {
+    pub fn as_slice(&self) -> &[u32]
+        ensures { result.now ≡ cues_of self.now }
+    {
+        &self.list[..self.count.min(64)]
+    }
 }
 
 // The answer to a call.
@@ -51,14 +60,34 @@ pub enum Answer {
     Class(Class),
     Order(Cues),
     Cycle(Cues),
-    Views(Cues),
-    NoViews,
-    Why(Pair),
-    NoWhy,
+    // The first view-equivalent order, if there is one.
+    Views(Option<Cues>),
+    Why(Option<Pair>),
+}
+
+// Why a call has no answer.
+#[derive(Clone, Copy)]
+pub enum Failure {
     Refused(Refusal),
     Fault(ReadFault),
     // No ticket with that number is held.
     NoTicket,
+}
+
+impl From<Refusal> for Failure {
+    ghost from_gives = { λ f r. r ≡ Refused f };
+
+    fn from(refusal: Refusal) -> Failure {
+        Failure::Refused(refusal)
+    }
+}
+
+impl From<ReadFault> for Failure {
+    ghost from_gives = { λ f r. r ≡ Fault f };
+
+    fn from(fault: ReadFault) -> Failure {
+        Failure::Fault(fault)
+    }
 }
 
 // What a run wants more of than it was lent.
@@ -70,145 +99,97 @@ pub enum Want {
     Tickets,
 }
 
-fn copy_act<K: Copy>(act: &Act<K>) -> Act<K>
-    ensures { result ≡ act.now }
-{
-    match act {
-        Act::Read(item) => Act::Read(*item),
-        Act::Write(item) => Act::Write(*item),
-        Act::Commit => Act::Commit,
-        Act::Abort => Act::Abort,
-    }
-}
-
-fn copy_step<K: Copy>(step: &Step<K>) -> Step<K>
-    ensures { result ≡ step.now }
-{
-    match step {
-        Step::Read(item) => Step::Read(*item),
-        Step::Write(item) => Step::Write(*item),
-    }
-}
-
-fn place_or(answer: Result<usize, Refusal>) -> Answer
-    ensures { result ≡ place_or answer }
-{
-    match answer {
-        Ok(place) => Answer::Place(place),
-        Err(refusal) => Answer::Refused(refusal),
+impl fmt::Display for Want {
+    fn fmt<W: fmt::Write>(&self, f: &mut fmt::Formatter<W>) -> fmt::Result {
+        f.write_str(match self {
+            Want::Answers => "nothing is performed: there is not a cell for each answer",
+            Want::Tickets => {
+                "nothing is performed: there is not a cell for a ticket for each call"
+            }
+        })
     }
 }
 
 // Shows the order, or the cycle.
-fn order<K: Item>(book: &Book<'_, K>) -> Answer
+fn order<K: Item>(book: &Book<'_, K>) -> Result<Answer, Failure>
     ensures { OrderRight K.Item.alike (accepted book.now) result }
 {
     let mut list = [0u32; 64];
     let mut strip = [0u8; 64];
-    match book.order(&mut list, &mut strip) {
-        Ok(found) => match found {
-            Found::Order(count) => Answer::Order(Cues { list, count }),
-            Found::Cycle(count) => Answer::Cycle(Cues { list, count }),
-        },
-        Err(refusal) => Answer::Refused(refusal),
-    }
+    Ok(match book.order(&mut list, &mut strip)? {
+        Found::Order(count) => Answer::Order(Cues { list, count }),
+        Found::Cycle(count) => Answer::Cycle(Cues { list, count }),
+    })
 }
 
-fn views<K: Item>(book: &Book<'_, K>) -> Answer
+fn views<K: Item>(book: &Book<'_, K>) -> Result<Answer, Failure>
     ensures { ViewsRight K.Item.alike (accepted book.now) result }
 {
     let mut list = [0u32; 64];
-    match book.views(&mut list) {
-        Ok(order) => match order {
-            Some(count) => Answer::Views(Cues { list, count }),
-            None => Answer::NoViews,
-        },
-        Err(refusal) => Answer::Refused(refusal),
+    let order = book.views(&mut list)?;
+    Ok(Answer::Views(order.map(|count| Cues { list, count })))
+}
+
+// The tickets that were given so far, in the first cells of what is lent for them.
+struct Held<'a> {
+    cells: &'a mut [Option<Ticket>],
+    given: usize,
+}
+
+impl Held<'_> {
+    // Keeps a ticket, and answers its number.
+    fn give(&mut self, ticket: Ticket) -> usize {
+        self.cells[self.given] = Some(ticket);
+        self.given += 1;
+        self.given
+    }
+
+    // The cell of the ticket with that number, if it was given.
+    fn cell(&mut self, number: usize) -> Option<&mut Option<Ticket>> {
+        if !(1..=self.given).contains(&number) {
+            return None;
+        }
+        Some(&mut self.cells[number - 1])
     }
 }
 
-fn why<K: Item>(book: &Book<'_, K>, i: u32, j: u32) -> Answer
-    ensures { result ≡ why_or (why_answer K.Item.alike (accepted book.now) i j) }
-{
-    match book.why(i, j) {
-        Ok(found) => match found {
-            Some(pair) => Answer::Why(pair),
-            None => Answer::NoWhy,
-        },
-        Err(refusal) => Answer::Refused(refusal),
-    }
-}
-
-// Whether a ticket with that number was given.
-fn is_given(given: usize, number: usize) -> bool
-    ensures { result ≡ is_given given number }
-{
-    1 <= number && number <= given
-}
-
-// Performs one call, with the tickets that were given so far in the first cells.
+// Performs one call.
 fn perform_one<K: Item>(
     book: &mut Book<'_, K>,
-    tickets: &mut [Option<Ticket>],
-    given: usize,
-    call: &Call<'_, K>,
-) -> Answer
-    requires { given < length tickets.old }
-    ensures done { Done K.Item.alike K.Item.parsed (room book.old) (record { entries = accepted book.old; tickets = take given tickets.old }) call.now tickets.old tickets.new (accepted book.new) result }
-    ensures lays { Lays book.old book.new }
+    tickets: &mut Held<'_>,
+    call: Call<'_, K>,
+) -> Result<Answer, Failure>
 {
-    match call {
-        Call::Enter(entry) => place_or(book.enter(Entry {
-            cue: entry.cue,
-            act: copy_act(&entry.act),
-        })),
-        Call::ReadIn(sheet) => match book.read_in(*sheet) {
-            Ok(lines) => Answer::Lines(lines),
-            Err(fault) => Answer::Fault(fault),
-        },
-        Call::Begin(cue) => match book.begin(*cue) {
-            Ok(ticket) => {
-                tickets[given] = Some(ticket);
-                Answer::Ticket(given + 1)
-            }
-            Err(refusal) => Answer::Refused(refusal),
-        },
+    Ok(match call {
+        Call::Enter(entry) => Answer::Place(book.enter(entry)?),
+        Call::ReadIn(sheet) => Answer::Lines(book.read_in(sheet)?),
+        Call::Begin(cue) => Answer::Ticket(tickets.give(book.begin(cue)?)),
         Call::Record(number, step) => {
-            if !is_given(given, *number) {
-                return Answer::NoTicket;
-            }
-            match &tickets[*number - 1] {
-                Some(ticket) => place_or(book.record(ticket, copy_step(step))),
-                None => Answer::NoTicket,
-            }
+            let ticket = tickets.ticket(number).ok_or(Failure::NoTicket)?;
+            Answer::Place(book.record(ticket, step)?)
         }
         Call::End(number, ending) => {
-            if !is_given(given, *number) {
-                return Answer::NoTicket;
-            }
-            match mem::replace(&mut tickets[*number - 1], None) {
-                Some(ticket) => match book.end(ticket, *ending) {
-                    Ok(receipt) => Answer::Receipt(receipt.place, receipt.ending),
-                    Err((ticket, refusal)) => {
-                        tickets[*number - 1] = Some(ticket);
-                        Answer::Refused(refusal)
-                    }
-                },
-                None => Answer::NoTicket,
+            let ticket = tickets.take(number).ok_or(Failure::NoTicket)?;
+            match book.end(ticket, ending) {
+                Ok(receipt) => Answer::Receipt(receipt.place, receipt.ending),
+                Err((ticket, refusal)) => {
+                    tickets.put_back(number, ticket);
+                    return Err(Failure::Refused(refusal));
+                }
             }
         }
         Call::Class => Answer::Class(book.class()),
-        Call::Order => order(book),
-        Call::Views => views(book),
-        Call::Why(i, j) => why(book, *i, *j),
-    }
+        Call::Order => order(book)?,
+        Call::Views => views(book)?,
+        Call::Why(i, j) => Answer::Why(book.why(i, j)?),
+    })
 }
 
 // Lays a new book out in the memory and performs the calls in turn; the answers stand in the first cells of `answers`.
 pub fn perform<K: Item>(
     memory: &mut [Entry<K>],
     calls: &[Call<'_, K>],
-    answers: &mut [Answer],
+    answers: &mut [Result<Answer, Failure>],
     tickets: &mut [Option<Ticket>],
 ) -> Result<(), Want>
     ensures wants { result ≡ wanted (length calls.now) (length answers.old) (length tickets.old) }
@@ -221,13 +202,9 @@ pub fn perform<K: Item>(
         return Err(Want::Tickets);
     }
     let mut book = Book::new(memory);
-    let mut given = 0usize;
-    for k in 0..calls.len() {
-        let answer = perform_one(&mut book, tickets, given, &calls[k]);
-        if let Answer::Ticket(_) = answer {
-            given += 1;
-        }
-        answers[k] = answer;
+    let mut held = Held { cells: tickets, given: 0 };
+    for (call, cell) in calls.iter().zip(answers.iter_mut()) {
+        *cell = perform_one(&mut book, &mut held, *call);
     }
     Ok(())
 }
