@@ -1,4 +1,0 @@
-pub mod Doing
-pub mod Law
-pub mod Shown
-pub mod Going

@@ -1,5 +1,5 @@
 -- When an answer about entries is right, in the subject's words. Assumes nothing.
-use Rattle.std.specs.Prelude.{◌≡◌, ℕ, ◌<◌, ◌≤◌, Bool, true, ◌⊎◌, List, length, take, ◌≢◌}
+use Rattle.std.specs.Prelude.{◌≡◌, ℕ, ◌<◌, ◌≤◌, Bool, true, ◌⊎◌, List, length, take, Some, None, Ok, Err, Result, ◌≢◌}
 use Rattle.refusals.specs.declared.Refusal.TheVariants.{ManyCues}
 use Rattle.orders.specs.Least.{Rearranges, Before}
 use Rattle.history.specs.declared.Entry.{Entry}
@@ -8,6 +8,8 @@ use Rattle.history.specs.Views.{committed_list, serial_list, SameView}
 use Rattle.runs.specs.declared.Answer.{Answer}
 use Rattle.runs.specs.declared.Answer.TheVariants as answer
 use Rattle.runs.specs.declared.Cues.{Cues}
+use Rattle.runs.specs.declared.Failure.{Failure}
+use Rattle.runs.specs.declared.Failure.TheVariants as failure
 
 -- the cues that stand in the first cells
 abbrev pub cues_of : Cues → List ℕ
@@ -34,21 +36,11 @@ module _ {K : Type 0} (alike : K → K → Bool) (es : List (Entry K)) where
     pub none : (q : List ℕ) → Serial q → keeps alike es q ≢ true
     pub cycle : ConflictCycle alike es c
 
-  abbrev pub OrderRight : Answer → Type 0
-  OrderRight (answer.Order c) = OrderShown (cues_of c)
-  OrderRight (answer.Cycle c) = CycleShown (cues_of c)
-  OrderRight (answer.Place p) = ⊥
-  OrderRight (answer.Lines n) = ⊥
-  OrderRight (answer.Ticket n) = ⊥
-  OrderRight (answer.Receipt p e) = ⊥
-  OrderRight (answer.Class c) = ⊥
-  OrderRight (answer.Views c) = ⊥
-  OrderRight answer.NoViews = ⊥
-  OrderRight (answer.Why p) = ⊥
-  OrderRight answer.NoWhy = ⊥
-  OrderRight (answer.Refused f) = ⊥
-  OrderRight (answer.Fault f) = ⊥
-  OrderRight answer.NoTicket = ⊥
+  -- no other answer is right, and no refusal
+  abbrev pub OrderRight : Result Answer Failure → Type 0
+  OrderRight (Ok (answer.Order c)) = OrderShown (cues_of c)
+  OrderRight (Ok (answer.Cycle c)) = CycleShown (cues_of c)
+  OrderRight _ = ⊥
 
   -- with no more than eight committed cues, a view-equivalent order, the first in dictionary order
   pub record ViewsShown (o : List ℕ) : Type 0 where
@@ -62,18 +54,9 @@ module _ {K : Type 0} (alike : K → K → Bool) (es : List (Entry K)) where
     pub few : length (committed_cues es) ≤ 8
     pub none : (q : List ℕ) → Serial q → Unseen q → ⊥
 
-  abbrev pub ViewsRight : Answer → Type 0
-  ViewsRight (answer.Views c) = ViewsShown (cues_of c)
-  ViewsRight answer.NoViews = NoneShown
-  ViewsRight (answer.Refused f) = (f ≡ ManyCues) × (8 < length (committed_cues es))
-  ViewsRight (answer.Place p) = ⊥
-  ViewsRight (answer.Lines n) = ⊥
-  ViewsRight (answer.Ticket n) = ⊥
-  ViewsRight (answer.Receipt p e) = ⊥
-  ViewsRight (answer.Class c) = ⊥
-  ViewsRight (answer.Order c) = ⊥
-  ViewsRight (answer.Cycle c) = ⊥
-  ViewsRight (answer.Why p) = ⊥
-  ViewsRight answer.NoWhy = ⊥
-  ViewsRight (answer.Fault f) = ⊥
-  ViewsRight answer.NoTicket = ⊥
+  -- one refusal may be right: that there are more
+  abbrev pub ViewsRight : Result Answer Failure → Type 0
+  ViewsRight (Ok (answer.Views (Some c))) = ViewsShown (cues_of c)
+  ViewsRight (Ok (answer.Views None)) = NoneShown
+  ViewsRight (Err (failure.Refused f)) = (f ≡ ManyCues) × (8 < length (committed_cues es))
+  ViewsRight _ = ⊥

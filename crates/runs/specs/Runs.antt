@@ -18,6 +18,8 @@ use Rattle.runs.specs.declared.Answer.TheVariants as answer
 use Rattle.runs.specs.declared.Call.{Call}
 use Rattle.runs.specs.declared.Call.TheVariants as call
 use Rattle.runs.specs.declared.Cues.{Cues}
+use Rattle.runs.specs.declared.Failure.{Failure}
+use Rattle.runs.specs.declared.Failure.TheVariants as failure
 use Rattle.runs.specs.declared.Want.{Want}
 use Rattle.runs.specs.declared.Want.TheVariants as want
 use Rattle.runs.specs.Answers.{OrderRight, ViewsRight}
@@ -30,30 +32,28 @@ is_given given n = nat_le 1 n && nat_le n given
 abbrev pub ticket_at : List (Option Ticket) → ℕ → Option Ticket
 ticket_at ts n = cond (is_given (length ts) n) (slice_index_or ts (n - 1) None) None
 
--- answers to the calls that accept one entry or none
-abbrev pub place_or : Result ℕ Refusal → Answer
-place_or (Ok p) = answer.Place p
-place_or (Err f) = answer.Refused f
+-- the answer to a call, by what a book answers
+abbrev pub told : {X E : Type 0} → (X → Answer) → (E → Failure) → Result X E → Result Answer Failure
+told answers fails (Ok x) = Ok (answers x)
+told answers fails (Err e) = Err (fails e)
 
-abbrev pub receipt_or : Ending → Result ℕ Refusal → Answer
-receipt_or e (Ok p) = answer.Receipt p e
-receipt_or e (Err f) = answer.Refused f
+abbrev pub place_or : Result ℕ Refusal → Result Answer Failure
+place_or = told answer.Place failure.Refused
 
-abbrev pub ticket_or : ℕ → Result Ticket Refusal → Answer
-ticket_or n (Ok t) = answer.Ticket n
-ticket_or n (Err f) = answer.Refused f
+abbrev pub receipt_or : Ending → Result ℕ Refusal → Result Answer Failure
+receipt_or ending = told (λ place. answer.Receipt place ending) failure.Refused
 
-abbrev pub lines_or : Result ℕ ReadFault → Answer
-lines_or (Ok n) = answer.Lines n
-lines_or (Err f) = answer.Fault f
+abbrev pub ticket_or : ℕ → Result Ticket Refusal → Result Answer Failure
+ticket_or n = told (λ ticket. answer.Ticket n) failure.Refused
 
-abbrev pub why_or : Result (Option Pair) Refusal → Answer
-why_or (Ok (Some p)) = answer.Why p
-why_or (Ok None) = answer.NoWhy
-why_or (Err f) = answer.Refused f
+abbrev pub lines_or : Result ℕ ReadFault → Result Answer Failure
+lines_or = told answer.Lines failure.Fault
 
-abbrev pub held : (Ticket → Answer) → Option Ticket → Answer
-held f None = answer.NoTicket
+abbrev pub why_or : Result (Option Pair) Refusal → Result Answer Failure
+why_or = told answer.Why failure.Refused
+
+abbrev pub held : (Ticket → Result Answer Failure) → Option Ticket → Result Answer Failure
+held f None = Err failure.NoTicket
 held f (Some t) = f t
 
 -- the tickets after a begin, and after an end
@@ -93,25 +93,15 @@ module _ {K : Type 0} (parsed : List ℕ → Option K) (places : ℕ) (s : State
   abbrev pub accepts : Call K → List (Entry K)
   accepts (call.Enter e) = one e (entered places s.entries e.cue)
   accepts (call.ReadIn sheet) = drop (length s.entries) (read_in parsed places s.entries sheet.now).entries
-  accepts (call.Begin n) = []
   accepts (call.Record n step) = one_under (λ t. one (under t (stepped step)) (entered places s.entries t.cue)) (ticket_at s.tickets n)
   accepts (call.End n ending) = one_under (λ t. one (under t (act_of ending)) (entered places s.entries t.cue)) (ticket_at s.tickets n)
-  accepts call.Class = []
-  accepts call.Order = []
-  accepts call.Views = []
-  accepts (call.Why i j) = []
+  accepts _ = []
 
   -- the tickets after it: a begin that is not refused gives one, and an end that is not refused uses one up
   abbrev pub gives : Call K → List (Option Ticket)
-  gives (call.Enter e) = s.tickets
-  gives (call.ReadIn sheet) = s.tickets
   gives (call.Begin n) = more s.tickets (begun s.entries n)
-  gives (call.Record n step) = s.tickets
   gives (call.End n ending) = used s.tickets n (λ t. entered places s.entries t.cue) (ticket_at s.tickets n)
-  gives call.Class = s.tickets
-  gives call.Order = s.tickets
-  gives call.Views = s.tickets
-  gives (call.Why i j) = s.tickets
+  gives _ = s.tickets
 
   abbrev pub after : Call K → State K
   after c = record { entries = s.entries ++ accepts c; tickets = gives c }
@@ -123,38 +113,32 @@ after_all parsed places s (c ∷ cs) = after_all parsed places (after parsed pla
 
 module _ {K : Type 0} (alike : K → K → Bool) (parsed : List ℕ → Option K) (places : ℕ) where
   -- the answer to a call speaks of the entries accepted before it, and is a refusal exactly when its condition is the first met
-  abbrev pub Right : State K → Call K → Answer → Type 0
+  abbrev pub Right : State K → Call K → Result Answer Failure → Type 0
   Right s (call.Enter e) a = a ≡ place_or (entered places s.entries e.cue)
   Right s (call.ReadIn sheet) a = a ≡ lines_or (read_in parsed places s.entries sheet.now).answer
   Right s (call.Begin n) a = a ≡ ticket_or (length s.tickets + 1) (begun s.entries n)
   Right s (call.Record n step) a = a ≡ held (λ t. place_or (entered places s.entries t.cue)) (ticket_at s.tickets n)
   Right s (call.End n ending) a = a ≡ held (λ t. receipt_or ending (entered places s.entries t.cue)) (ticket_at s.tickets n)
-  Right s call.Class a = a ≡ answer.Class (class_of alike s.entries)
+  Right s call.Class a = a ≡ Ok (answer.Class (class_of alike s.entries))
   Right s call.Order a = OrderRight alike s.entries a
   Right s call.Views a = ViewsRight alike s.entries a
   Right s (call.Why i j) a = (a ≡ why_or (why_answer alike s.entries i j)) × Tells alike s.entries i j (why_answer alike s.entries i j)
 
   -- each answer is right, in turn
-  abbrev pub AllRight : State K → List (Call K) → List Answer → Type 0
+  abbrev pub AllRight : State K → List (Call K) → List (Result Answer Failure) → Type 0
   AllRight s [] [] = Unit {0}
   AllRight s [] (a ∷ rest) = ⊥
   AllRight s (c ∷ cs) [] = ⊥
   AllRight s (c ∷ cs) (a ∷ rest) = Right s c a × AllRight (after parsed places s c) cs rest
 
   -- the law of a run: each answer is right about what was accepted before it; after a cycle no order is shown; and the class never rises
-  pub record Lawful (calls : List (Call K)) (answers : List Answer) : Type 0 where
+  pub record Lawful (calls : List (Call K)) (answers : List (Result Answer Failure)) : Type 0 where
     pub right : AllRight start calls answers
-    pub cycles : (i j : ℕ) (c d : Cues) (x : Answer) → i < j → j < length answers → slice_index_or answers i x ≡ answer.Cycle c → slice_index_or answers j x ≢ answer.Order d
-    pub classes : (i j : ℕ) (c d : Class) (x : Answer) → i < j → j < length answers → slice_index_or answers i x ≡ answer.Class c → slice_index_or answers j x ≡ answer.Class d → class_number d ≤ class_number c
-
-  -- what one call leaves: the answer, the entries, and the tickets in the first cells of what was lent for them
-  pub record Done (s : State K) (c : Call K) (cells cells' : List (Option Ticket)) (entries' : List (Entry K)) (a : Answer) : Type 0 where
-    pub right : Right s c a
-    pub entries : entries' ≡ s.entries ++ accepts parsed places s c
-    pub tickets : cells' ≡ gives parsed places s c ++ drop (length (gives parsed places s c)) cells
+    pub cycles : (i j : ℕ) (c d : Cues) (x : Result Answer Failure) → i < j → j < length answers → slice_index_or answers i x ≡ Ok (answer.Cycle c) → slice_index_or answers j x ≢ Ok (answer.Order d)
+    pub classes : (i j : ℕ) (c d : Class) (x : Result Answer Failure) → i < j → j < length answers → slice_index_or answers i x ≡ Ok (answer.Class c) → slice_index_or answers j x ≡ Ok (answer.Class d) → class_number d ≤ class_number c
 
   -- what a run leaves: answers and tickets stand in the first cells, and the others are as they were
-  pub record Performed (calls : List (Call K)) (answers answers' : List Answer) (cells cells' : List (Option Ticket)) (memory memory' : List (Entry K)) : Type 0 where
+  pub record Performed (calls : List (Call K)) (answers answers' : List (Result Answer Failure)) (cells cells' : List (Option Ticket)) (memory memory' : List (Entry K)) : Type 0 where
     pub law : Lawful calls (take (length calls) answers')
     pub rest : drop (length calls) answers' ≡ drop (length calls) answers
     pub tickets : cells' ≡ (after_all parsed places start calls).tickets ++ drop (length (after_all parsed places start calls).tickets) cells
@@ -165,11 +149,11 @@ abbrev pub wanted : (calls answers cells : ℕ) → Result (Unit {0}) Want
 wanted calls answers cells = cond (nat_lt answers calls) (Err want.Answers) (cond (nat_lt cells calls) (Err want.Tickets) (Ok tt))
 
 -- a run that is refused leaves all as it was
-pub record Untouched {K : Type 0} (answers answers' : List Answer) (cells cells' : List (Option Ticket)) (memory memory' : List (Entry K)) : Type 0 where
+pub record Untouched {K : Type 0} (answers answers' : List (Result Answer Failure)) (cells cells' : List (Option Ticket)) (memory memory' : List (Entry K)) : Type 0 where
   pub said : answers' ≡ answers
   pub tickets : cells' ≡ cells
   pub entries : memory' ≡ memory
 
-abbrev pub Ran : {K : Type 0} → (K → K → Bool) → (List ℕ → Option K) → ℕ → List (Call K) → (answers answers' : List Answer) (cells cells' : List (Option Ticket)) (memory memory' : List (Entry K)) → Result (Unit {0}) Want → Type 0
+abbrev pub Ran : {K : Type 0} → (K → K → Bool) → (List ℕ → Option K) → ℕ → List (Call K) → (answers answers' : List (Result Answer Failure)) (cells cells' : List (Option Ticket)) (memory memory' : List (Entry K)) → Result (Unit {0}) Want → Type 0
 Ran alike parsed places calls answers answers' cells cells' memory memory' (Ok x) = Performed alike parsed places calls answers answers' cells cells' memory memory'
 Ran alike parsed places calls answers answers' cells cells' memory memory' (Err w) = Untouched answers answers' cells cells' memory memory'

@@ -1,16 +1,19 @@
 // Runs: any list of calls on a new book, with all their answers.
 #![tactic(auto)]
 
-ghost use Rattle.std.specs.Prelude.{◌≡◌, ◌<◌, min, length, take};
+ghost use Rattle.std.specs.Prelude.{◌≡◌, ◌<◌, min, length};
 ghost use Rattle.book.specs.Entering.{room, accepted, Lays};
-ghost use Rattle.serial.specs.Why.{why_answer};
 ghost use Rattle.runs.specs.declared.Failure.TheVariants.{Refused, Fault};
 ghost use Rattle.runs.specs.Answers.{cues_of, OrderRight, ViewsRight};
-ghost use Rattle.runs.specs.Runs.{State, is_given, place_or, why_or, Done, wanted, Ran};
+ghost use Rattle.runs.specs.Holding.{tickets_of, so_far, Keeps};
+ghost use Rattle.runs.specs.Runs.{Right, after, wanted, Ran};
+
+mod held;
 
 use book::{Book, ReadFault, Step, Ticket};
 use graphs::Found;
-use history::{Act, Ending, Entry};
+use held::Held;
+use history::{Ending, Entry};
 use items::Item;
 use recovery::Class;
 use refusals::Refusal;
@@ -130,59 +133,41 @@ fn views<K: Item>(book: &Book<'_, K>) -> Result<Answer, Failure>
     Ok(Answer::Views(order.map(|count| Cues { list, count })))
 }
 
-// The tickets that were given so far, in the first cells of what is lent for them.
-struct Held<'a> {
-    cells: &'a mut [Option<Ticket>],
-    given: usize,
-}
-
-impl Held<'_> {
-    // Keeps a ticket, and answers its number.
-    fn give(&mut self, ticket: Ticket) -> usize {
-        self.cells[self.given] = Some(ticket);
-        self.given += 1;
-        self.given
-    }
-
-    // The cell of the ticket with that number, if it was given.
-    fn cell(&mut self, number: usize) -> Option<&mut Option<Ticket>> {
-        if !(1..=self.given).contains(&number) {
-            return None;
-        }
-        Some(&mut self.cells[number - 1])
-    }
-}
-
 // Performs one call.
 fn perform_one<K: Item>(
     book: &mut Book<'_, K>,
     tickets: &mut Held<'_>,
-    call: Call<'_, K>,
+    call: &Call<'_, K>,
 ) -> Result<Answer, Failure>
+    requires { tickets.old.given < length tickets.old.cells.now }
+    ensures right { Right K.Item.alike K.Item.parsed (room book.old) (so_far book.old tickets.old) call.now result }
+    ensures after { so_far book.new tickets.new ≡ after K.Item.parsed (room book.old) (so_far book.old tickets.old) call.now }
+    ensures lays { Lays book.old book.new }
+    ensures keeps { Keeps tickets.old tickets.new }
 {
-    Ok(match call {
-        Call::Enter(entry) => Answer::Place(book.enter(entry)?),
-        Call::ReadIn(sheet) => Answer::Lines(book.read_in(sheet)?),
-        Call::Begin(cue) => Answer::Ticket(tickets.give(book.begin(cue)?)),
+    match call {
+        Call::Enter(entry) => Ok(Answer::Place(book.enter(*entry)?)),
+        Call::ReadIn(sheet) => Ok(Answer::Lines(book.read_in(*sheet)?)),
+        Call::Begin(cue) => Ok(Answer::Ticket(tickets.give(book.begin(*cue)?))),
         Call::Record(number, step) => {
-            let ticket = tickets.ticket(number).ok_or(Failure::NoTicket)?;
-            Answer::Place(book.record(ticket, step)?)
+            let ticket = tickets.ticket(*number).ok_or(Failure::NoTicket)?;
+            Ok(Answer::Place(book.record(ticket, *step)?))
         }
         Call::End(number, ending) => {
-            let ticket = tickets.take(number).ok_or(Failure::NoTicket)?;
-            match book.end(ticket, ending) {
-                Ok(receipt) => Answer::Receipt(receipt.place, receipt.ending),
+            let ticket = tickets.take(*number).ok_or(Failure::NoTicket)?;
+            match book.end(ticket, *ending) {
+                Ok(receipt) => Ok(Answer::Receipt(receipt.place, receipt.ending)),
                 Err((ticket, refusal)) => {
-                    tickets.put_back(number, ticket);
-                    return Err(Failure::Refused(refusal));
+                    tickets.put_back(*number, ticket);
+                    Err(Failure::Refused(refusal))
                 }
             }
         }
-        Call::Class => Answer::Class(book.class()),
-        Call::Order => order(book)?,
-        Call::Views => views(book)?,
-        Call::Why(i, j) => Answer::Why(book.why(i, j)?),
-    })
+        Call::Class => Ok(Answer::Class(book.class())),
+        Call::Order => order(book),
+        Call::Views => views(book),
+        Call::Why(i, j) => Ok(Answer::Why(book.why(*i, *j)?)),
+    }
 }
 
 // Lays a new book out in the memory and performs the calls in turn; the answers stand in the first cells of `answers`.
@@ -202,9 +187,12 @@ pub fn perform<K: Item>(
         return Err(Want::Tickets);
     }
     let mut book = Book::new(memory);
-    let mut held = Held { cells: tickets, given: 0 };
-    for (call, cell) in calls.iter().zip(answers.iter_mut()) {
-        *cell = perform_one(&mut book, &mut held, *call);
+    let mut tickets = Held {
+        cells: tickets,
+        given: 0,
+    };
+    for (k, call) in calls.iter().enumerate() {
+        answers[k] = perform_one(&mut book, &mut tickets, call);
     }
     Ok(())
 }

@@ -1,0 +1,71 @@
+// The tickets that a run has given, by number.
+ghost use Rattle.std.specs.Prelude.{◌≡◌, ◌+◌, ◌<◌, ◌≤◌, Some, None, ◌∷◌, [], ◌++◌, length, option_copied};
+ghost use Rattle.runs.specs.Runs.{is_given, ticket_at};
+
+use book::Ticket;
+
+// The tickets given so far, in the first cells of what is lent for them. The first has the number 1, and the cell of one that is
+// used up holds none.
+#[derive(Drop)]
+pub struct Held<'a> {
+    pub cells: &'a mut [Option<Ticket>],
+    pub given: usize,
+    ghost within: { given ≤ length cells.now },
+}
+
+impl Held<'_> {
+    ghost use Rattle.runs.specs.Holding.{tickets_of, set_ticket, Keeps};
+
+    // Keeps a ticket and answers its number.
+    pub fn give(&mut self, ticket: Ticket) -> usize
+        requires { self.old.given < length self.old.cells.now }
+        ensures number { result ≡ self.old.given + 1 }
+        ensures tickets { tickets_of self.new ≡ tickets_of self.old ++ Some ticket ∷ [] }
+        ensures keeps { Keeps self.old self.new }
+    {
+        self.cells[self.given] = Some(ticket);
+        self.given += 1;
+        self.given
+    }
+
+    // Whether a ticket with that number was given.
+    fn is_given(&self, number: usize) -> bool
+        ensures { result ≡ is_given self.now.given number }
+    {
+        (1..=self.given).contains(&number)
+    }
+
+    // The ticket with that number, if it is held and not used up.
+    pub fn ticket(&self, number: usize) -> Option<&Ticket>
+        ensures { option_copied result ≡ ticket_at (tickets_of self.now) number }
+    {
+        if !self.is_given(number) {
+            return None;
+        }
+        let cells = &*self.cells;
+        cells[number - 1].as_ref()
+    }
+
+    // Takes it out of its cell.
+    pub fn take(&mut self, number: usize) -> Option<Ticket>
+        ensures ticket { result ≡ ticket_at (tickets_of self.old) number }
+        ensures tickets { tickets_of self.new ≡ set_ticket (tickets_of self.old) number None }
+        ensures keeps { Keeps self.old self.new }
+    {
+        if !self.is_given(number) {
+            return None;
+        }
+        let cells = &mut *self.cells;
+        cells[number - 1].take()
+    }
+
+    // Puts it back.
+    pub fn put_back(&mut self, number: usize, ticket: Ticket)
+        ensures tickets { tickets_of self.new ≡ set_ticket (tickets_of self.old) number (Some ticket) }
+        ensures keeps { Keeps self.old self.new }
+    {
+        if self.is_given(number) {
+            self.cells[number - 1] = Some(ticket);
+        }
+    }
+}
