@@ -134,6 +134,7 @@ fn views<K: Item>(book: &Book<'_, K>) -> Result<Answer, Failure>
 }
 
 // Performs one call.
+#[tactic(auto, using(crate::proofs::Doing::read_front))]
 fn perform_one<K: Item>(
     book: &mut Book<'_, K>,
     tickets: &mut Held<'_>,

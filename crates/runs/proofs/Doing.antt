@@ -1,0 +1,55 @@
+-- What reading in, and an ending that is refused, leave. Assumes nothing.
+use Rattle.std.proofs.Common.{◌≡◌, ℕ, ◌+◌, List, [], ◌∷◌, ◌++◌, length, drop, Some, None, Ok, Err, Option, Result, sym, refl, ap, ◌∙◌, append_assoc, append-nil, arith}
+use Rattle.std.proofs.lemmas.List.{drop_at}
+use Rattle.refusals.specs.declared.Refusal.{Refusal}
+use Rattle.refusals.specs.declared.Layer.{Layer}
+use Rattle.history.specs.declared.Ending.{Ending}
+use Rattle.history.specs.declared.Entry.{Entry}
+use Rattle.history.specs.Endings.{act_of}
+use Rattle.book.specs.declared.tickets.Ticket.{Ticket}
+use Rattle.book.specs.Entering.{entered}
+use Rattle.book.specs.Reading.{lines_of, line_entered, step, read_from, read_in}
+use Rattle.book.specs.Tickets.{under, closed}
+use Rattle.runs.specs.declared.Call.TheVariants as call
+use Rattle.runs.specs.Holding.{set_ticket}
+use Rattle.runs.specs.Runs.{State, ticket_at, one, one_under, used, used_by, after}
+use Rattle.runs.proofs.Holding.{put_back}
+
+-- reading in only adds
+module _ {K : Type 0} (parsed : List ℕ → Option K) (places : ℕ) where
+  record Adds (es all : List (Entry K)) : Type 0 where
+    more : List (Entry K)
+    is : all ≡ es ++ more
+
+  read_adds : (n : ℕ) (es : List (Entry K)) (ls : List (List ℕ)) → Adds es (read_from parsed places n es ls).entries
+  read_adds n es [] = record { more = []; is = sym (append-nil es) }
+  read_adds n es (l ∷ ls) = go (λ e. read_adds (n + 1) (es ++ e ∷ []) ls) (line_entered parsed places es l)
+    where
+      onward : (e : Entry K) (all : List (Entry K)) → Adds (es ++ e ∷ []) all → Adds es all
+      onward e all h = record { more = e ∷ h.more; is = h.is ∙ append_assoc es (e ∷ []) h.more }
+
+      go : ((e : Entry K) → Adds (es ++ e ∷ []) (read_from parsed places (n + 1) (es ++ e ∷ []) ls).entries) → (r : Result (Entry K) Layer) → Adds es (step parsed n es (λ e. read_from parsed places (n + 1) (es ++ e ∷ []) ls) r).entries
+      go more (Ok e) = onward e (read_from parsed places (n + 1) (es ++ e ∷ []) ls).entries (more e)
+      go more (Err f) = record { more = []; is = sym (append-nil es) }
+
+  pub read_front : (es : List (Entry K)) (sheet : List ℕ) → (read_in parsed places es sheet).entries ≡ es ++ drop (length es) (read_in parsed places es sheet).entries
+  read_front es sheet =
+      let a = read_adds 0 es (lines_of sheet) in
+      a.is ∙ ap (λ (zs : List (Entry K)). es ++ zs) (sym (ap (drop (length es)) a.is ∙ drop_at es a.more (length es) refl))
+
+  -- the ticket is put back, and nothing else has changed
+  pub end_refused : (es : List (Entry K)) (ts : List (Option Ticket)) (n : ℕ) (d : Ending) (t u : Ticket) (f : Refusal) → ticket_at ts n ≡ Some t → Err (u, f) ≡ closed t d (entered places es t.cue) → record { entries = es; tickets = set_ticket (set_ticket ts n None) n (Some u) } ≡ after parsed places (record { entries = es; tickets = ts }) (call.End n d)
+  end_refused es ts n d t u f there closes = go (entered places es t.cue) refl closes
+    where
+      go : (r : Result ℕ Refusal) → entered places es t.cue ≡ r → Err (u, f) ≡ closed t d r → record { entries = es; tickets = set_ticket (set_ticket ts n None) n (Some u) } ≡ after parsed places (record { entries = es; tickets = ts }) (call.End n d)
+      go (Ok p) is e = absurd (let z : ◌≡◌ {A = ℕ} 0 1 = cc in omega arith)
+      go (Err g) is e =
+          let pair : ◌≡◌ {A = Ticket × Refusal} (u, f) (t, g) = cc in
+          let same : u ≡ t = ap (λ (q : Ticket × Refusal). q.0) pair in
+          let added : one_under (λ v. one (under v (act_of d)) (entered places es v.cue)) (ticket_at ts n) ≡ [] =
+          ap (one_under (λ v. one (under v (act_of d)) (entered places es v.cue))) there ∙ ap (one (under t (act_of d))) is in
+          let left : used ts n (λ v. entered places es v.cue) (ticket_at ts n) ≡ ts =
+          ap (used ts n (λ v. entered places es v.cue)) there ∙ ap (used_by ts n) is in
+          let back : set_ticket (set_ticket ts n None) n (Some u) ≡ ts = ap (λ (v : Ticket). set_ticket (set_ticket ts n None) n (Some v)) same ∙ put_back ts n t there in
+          let grown : es ≡ es ++ one_under (λ v. one (under v (act_of d)) (entered places es v.cue)) (ticket_at ts n) = sym (append-nil es) ∙ ap (λ (zs : List (Entry K)). es ++ zs) (sym added) in
+          λ i. record { entries = grown i; tickets = (back ∙ sym left) i }
