@@ -8,13 +8,22 @@ use book::Ticket;
 // used up holds none.
 #[derive(Drop)]
 pub struct Held<'a> {
-    pub cells: &'a mut [Option<Ticket>],
-    pub given: usize,
+    cells: &'a mut [Option<Ticket>],
+    given: usize,
     ghost within: { given ≤ length cells.now },
 }
 
-impl Held<'_> {
+impl<'a> Held<'a> {
     ghost use Rattle.runs.specs.Holding.{tickets_of, set_ticket, Keeps};
+
+    // None is given yet, and the cells stay as they are.
+    pub fn new(cells: &'a mut [Option<Ticket>]) -> Held<'a>
+        ensures none { result.given ≡ 0 }
+        ensures cells { result.cells.now ≡ cells.old }
+        ensures lender { result.cells.ghost_name ≡ cells.entry.ghost_name }
+    {
+        Held { cells, given: 0 }
+    }
 
     // Keeps a ticket and answers its number.
     pub fn give(&mut self, ticket: Ticket) -> usize

@@ -188,12 +188,9 @@ pub fn perform<K: Item>(
         return Err(Want::Tickets);
     }
     let mut book = Book::new(memory);
-    let mut tickets = Held {
-        cells: tickets,
-        given: 0,
-    };
+    let mut held = Held::new(tickets);
     for (k, call) in calls.iter().enumerate() {
-        answers[k] = perform_one(&mut book, &mut tickets, call);
+        answers[k] = perform_one(&mut book, &mut held, call);
     }
     Ok(())
 }
