@@ -12,7 +12,7 @@ use Rattle.book.specs.Reading.{lines_of, line_entered, step, read_from, read_in}
 use Rattle.book.specs.Tickets.{under, closed}
 use Rattle.runs.specs.declared.Call.TheVariants as call
 use Rattle.runs.specs.Holding.{set_ticket}
-use Rattle.runs.specs.Runs.{State, ticket_at, one, one_under, used, used_by, after}
+use Rattle.runs.specs.Runs.{ticket_at, one, one_under, used, used_by, after}
 use Rattle.runs.proofs.Holding.{put_back}
 
 -- reading in only adds

@@ -1,18 +1,14 @@
 -- A run with right answers is lawful. Assumes nothing.
 use Rattle.std.proofs.Common.{◌≡◌, ℕ, zero, suc, ◌<◌, ◌≤◌, Bool, List, [], ◌∷◌, ◌++◌, length, get_or, Some, None, Ok, Err, Option, Result, sym, refl, subst, append_assoc, append-nil, arith}
-use Rattle.refusals.specs.declared.Refusal.{Refusal}
 use Rattle.orders.proofs.Leasts.{none_is_none}
-use Rattle.history.specs.declared.Ending.{Ending}
 use Rattle.history.specs.declared.Entry.{Entry}
 use Rattle.history.specs.Entries.{committed}
 use Rattle.history.specs.Order.{keeps}
 use Rattle.recovery.specs.declared.Class.{Class}
 use Rattle.recovery.specs.Classes.{class_number, class_of}
 use Rattle.recovery.proofs.ClassLaws.{class_never_rises}
-use Rattle.serial.specs.declared.Pair.{Pair}
 use Rattle.serial.specs.Why.{why_answer}
 use Rattle.serial.proofs.Lasting.{cycle_lasts_lem}
-use Rattle.book.specs.declared.sheets.ReadFault.{ReadFault}
 use Rattle.book.specs.declared.tickets.Ticket.{Ticket}
 use Rattle.book.specs.Entering.{entered}
 use Rattle.book.specs.Reading.{read_in}

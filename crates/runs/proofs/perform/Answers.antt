@@ -1,4 +1,4 @@
-use Rattle.std.proofs.Common.{◌≡◌, ℕ, ◌<◌, min, List, length, refl, ap, arith, rules}
+use Rattle.std.proofs.Common.{◌≡◌, ◌<◌, min, List, length, ap, arith, rules}
 use Rattle.history.specs.declared.Entry.{Entry}
 use Rattle.book.specs.Entering.{room}
 use Rattle.runs.proofs.Going.{going_more, going_all}

@@ -1,6 +1,5 @@
 use Rattle.std.proofs.Common.{Some, sym, ap, ◌∙◌, rules}
 use Rattle.book.specs.Entering.{room, accepted}
-use Rattle.runs.specs.declared.Call.TheVariants.{End}
 use Rattle.runs.specs.Holding.{tickets_of, set_ticket, so_far}
 use Rattle.runs.specs.Runs.{after}
 use Rattle.runs.proofs.Doing.{end_refused}
