@@ -42,7 +42,7 @@ module _ {K : Type 0} (parsed : List ℕ → Option K) (places : ℕ) where
   end_refused es ts n d t u f there closes = go (entered places es t.cue) refl closes
     where
       go : (r : Result ℕ Refusal) → entered places es t.cue ≡ r → Err (u, f) ≡ closed t d r → record { entries = es; tickets = set_ticket (set_ticket ts n None) n (Some u) } ≡ after parsed places (record { entries = es; tickets = ts }) (call.End n d)
-      go (Ok p) is e = absurd (let z : ◌≡◌ {A = ℕ} 0 1 = cc in omega arith)
+      go (Ok p) is e = cc
       go (Err g) is e =
           let pair : ◌≡◌ {A = Ticket × Refusal} (u, f) (t, g) = cc in
           let same : u ≡ t = ap (λ (q : Ticket × Refusal). q.0) pair in

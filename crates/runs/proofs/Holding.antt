@@ -1,17 +1,12 @@
 -- Tickets in their cells. Assumes nothing.
 use Rattle.std.proofs.Common.{◌≡◌, ℕ, zero, suc, ◌-◌, ◌<◌, ◌≤◌, Bool, true, false, cond, List, [], ◌∷◌, length, get_or, take, drop, set, Some, None, Option, refl, sym, ap, ◌∙◌, leb, arith}
 use Rattle.std.proofs.lemmas.List.{length-set, length-take-le, drop-set-lt, set-get_or, set-set}
+use Rattle.std.proofs.Math.Seq.{take-set-lt}
 use Rattle.std.proofs.lemmas.Bool.{and_parts, cond-true, leb-true}
 use Rattle.book.specs.declared.tickets.Ticket.{Ticket}
 use Rattle.runs.specs.declared.held.Held.{Held}
 use Rattle.runs.specs.Holding.{set_ticket, Keeps}
 use Rattle.runs.specs.Runs.{is_given, ticket_at}
-
-set_front : {X : Type 0} (given : ℕ) (cells : List X) (i : ℕ) (x : X) → take given (set cells i x) ≡ set (take given cells) i x
-set_front zero cells i x = refl
-set_front (suc given) [] i x = refl
-set_front (suc given) (c ∷ cells) zero x = refl
-set_front (suc given) (c ∷ cells) (suc i) x = ap (λ zs. c ∷ zs) (set_front given cells i x)
 
 -- one cell is set, of those given
 pub keeps_set : (h after : Held) (i : ℕ) (t : Option Ticket) → i < after.given → h.given ≤ after.given → after.cells.now ≡ set h.cells.now i t → after.cells.ghost_name ≡ h.cells.ghost_name → Keeps h after
@@ -31,7 +26,7 @@ cell_given given n is =
 -- a cell of a ticket that was given
 pub set_given : (given : ℕ) (cells : List (Option Ticket)) (n : ℕ) (t : Option Ticket) → given ≤ length cells → is_given given n ≡ true → take given (set cells (n - 1) t) ≡ set_ticket (take given cells) n t
 set_given given cells n t h is =
-    set_front given cells (n - 1) t
+    take-set-lt given cells (n - 1) t (cell_given given n is)
     ∙ sym (cond-true (is_given (length (take given cells)) n) (set (take given cells) (n - 1) t) (take given cells) (ap (λ (k : ℕ). is_given k n) (length-take-le given cells h) ∙ is))
 
 -- a ticket taken and put back
@@ -44,4 +39,4 @@ put_back ts n t is = go (is_given (length ts) n) refl is
         ∙ set-set ts (n - 1) None (Some t)
         ∙ ap (set ts (n - 1)) (sym e)
         ∙ set-get_or ts (n - 1) None
-    go false g e = absurd (let z : ◌≡◌ {A = ℕ} 0 1 = cc in omega arith)
+    go false g e = cc

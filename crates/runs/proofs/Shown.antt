@@ -20,12 +20,6 @@ use Rattle.runs.specs.declared.Answer.TheVariants as answer
 use Rattle.runs.specs.declared.Cues.{Cues}
 use Rattle.runs.specs.Answers.{OrderShown, CycleShown, ViewsShown, NoneShown, ViewsRight}
 
-none_some : {X : Type 0} (x : X) → None ≡ Some x → ⊥
-none_some x e = let z : ◌≡◌ {A = ℕ} 0 1 = cc in omega arith
-
-ok_err : {X Y : Type 0} (x : X) (y : Y) → Ok x ≡ Err y → ⊥
-ok_err x y e = let z : ◌≡◌ {A = ℕ} 0 1 = cc in omega arith
-
 module _ {K : Type 0} (alike : K → K → Bool) (es : List (Entry K)) (list cells : List ℕ) (n : ℕ) where
   pub order_shown : Sameness alike → (f : Found) → OrderOrCycle alike es list cells f → ShownView alike es cells (Ok f) → f ≡ Order n → OrderShown alike es (take n cells)
   order_shown same f given view which =
@@ -50,36 +44,36 @@ module _ {K : Type 0} (alike : K → K → Bool) (es : List (Entry K)) (list cel
 -- a list of 64 cells and a strip of 64 bytes are never refused
 pub order_taken : {K : Type 0} (es : List (Entry K)) (e : Refusal) → Some e ≡ order_refusal es 64 64 → ⊥
 order_taken es e h =
-    none_some e
-    (sym (cond-false (ltb 64 64) (Some StripShort) (cond (ltb 64 (length (committed_cues es))) (Some ListShort) None) (le-ltb 64 64 (omega arith))
-    ∙ cond-false (ltb 64 (length (committed_cues es))) (Some ListShort) None (le-ltb 64 (length (committed_cues es)) (among_short (committed es))))
-    ∙ sym h)
+    let taken : order_refusal es 64 64 ≡ None =
+    cond-false (ltb 64 64) (Some StripShort) (cond (ltb 64 (length (committed_cues es))) (Some ListShort) None) (le-ltb 64 64 (omega arith))
+    ∙ cond-false (ltb 64 (length (committed_cues es))) (Some ListShort) None (le-ltb 64 (length (committed_cues es)) (among_short (committed es))) in
+    cc
 
 -- views that are not refused are of no more than eight cues
 taken_few : {K : Type 0} (es : List (Entry K)) (cells : ℕ) → views_refusal es cells ≡ None → length (committed_cues es) ≤ 8
 taken_few es cells h = ltb-false 8 (length (committed_cues es)) (go (ltb 8 (length (committed_cues es))) h)
   where
     go : (b : Bool) → cond b (Some ManyCues) (cond (ltb cells (length (committed_cues es))) (Some ListShort) None) ≡ None → b ≡ false
-    go true e = absurd (none_some ManyCues (sym e))
+    go true e = cc
     go false e = refl
 
 -- an answer that is no refusal, with the list that it leaves
 found_views : (n : ℕ) (list cells : List ℕ) (r : Option Refusal) (v : Option (List ℕ)) → Ok (Some n) ≡ answered r v → cells ≡ left r v list → (r ≡ None) × (v ≡ Some (take n cells))
-found_views n list cells (Some e) v a l = absurd (ok_err (Some n) e a)
-found_views n list cells None None a l = absurd (none_some n (let z : None ≡ Some n = cc in z))
+found_views n list cells (Some e) v a l = cc
+found_views n list cells None None a l = cc
 found_views n list cells None (Some o) a l =
     let long : length o ≡ n = cc in
     (refl, ap Some (sym (ap (take n) l ∙ take_at o (drop (length o) list) n long)))
 
 found_none : (r : Option Refusal) (v : Option (List ℕ)) → Ok None ≡ answered r v → (r ≡ None) × (v ≡ None)
-found_none (Some e) v a = absurd (ok_err None e a)
+found_none (Some e) v a = cc
 found_none None None a = (refl, refl)
-found_none None (Some o) a = absurd (none_some (length o) (let z : None ≡ Some (length o) = cc in z))
+found_none None (Some o) a = cc
 
 module _ {K : Type 0} (alike : K → K → Bool) (same : Sameness alike) (es : List (Entry K)) (room : ℕ) where
-  views_shown : (list cells : List ℕ) (n : ℕ) (a : Option ℕ) → Ok a ≡ answered (views_refusal es room) (view_order alike es) → a ≡ Some n → cells ≡ left (views_refusal es room) (view_order alike es) list → ViewsShown alike es (take n cells)
-  views_shown list cells n a is which l =
-      let found = found_views n list cells (views_refusal es room) (view_order alike es) (ap Ok (sym which) ∙ is) l in
+  views_shown : (list cells : List ℕ) (n : ℕ) → Ok (Some n) ≡ answered (views_refusal es room) (view_order alike es) → cells ≡ left (views_refusal es room) (view_order alike es) list → ViewsShown alike es (take n cells)
+  views_shown list cells n is l =
+      let found = found_views n list cells (views_refusal es room) (view_order alike es) is l in
       let least = first_is_least (committed es) (view_equivalent alike es) (take n cells) found.1 in
       record {
         few = taken_few es room found.0;
@@ -88,14 +82,14 @@ module _ {K : Type 0} (alike : K → K → Bool) (same : Sameness alike) (es : L
         first = λ q rq u. least.least q rq ((view_is_same_lem K alike same es q rq).1 u);
       }
 
-  none_shown : (a : Option ℕ) → Ok a ≡ answered (views_refusal es room) (view_order alike es) → a ≡ None → NoneShown alike es
-  none_shown a is which =
-      let found = found_none (views_refusal es room) (view_order alike es) (ap Ok (sym which) ∙ is) in
+  none_shown : Ok None ≡ answered (views_refusal es room) (view_order alike es) → NoneShown alike es
+  none_shown is =
+      let found = found_none (views_refusal es room) (view_order alike es) is in
       record {
         few = taken_few es room found.0;
         none = λ q rq u. none_is_none (committed es) (view_equivalent alike es) found.1 q rq ((view_is_same_lem K alike same es q rq).1 u);
       }
 
-  pub views_right : (list cells : List ℕ) (a : Option ℕ) (shown : Option Cues) → Ok a ≡ answered (views_refusal es room) (view_order alike es) → cells ≡ left (views_refusal es room) (view_order alike es) list → shown ≡ option_map (λ n. record { list = cells; count = n }) a → ViewsRight alike es (Ok (answer.Views shown))
-  views_right list cells (Some n) shown is l e = subst (λ (o : Option Cues). ViewsRight alike es (Ok (answer.Views o))) (sym e) (views_shown list cells n (Some n) is refl l)
-  views_right list cells None shown is l e = subst (λ (o : Option Cues). ViewsRight alike es (Ok (answer.Views o))) (sym e) (none_shown None is refl)
+  pub views_right : (list cells : List ℕ) (a : Option ℕ) → Ok a ≡ answered (views_refusal es room) (view_order alike es) → cells ≡ left (views_refusal es room) (view_order alike es) list → ViewsRight alike es (Ok (answer.Views (option_map (λ n. record { list = cells; count = n }) a)))
+  views_right list cells (Some n) is l = views_shown list cells n is l
+  views_right list cells None is l = none_shown is

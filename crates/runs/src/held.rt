@@ -26,6 +26,7 @@ impl<'a> Held<'a> {
     }
 
     // Keeps a ticket and answers its number.
+    #[tactic(auto, using(crate::proofs::Holding::keeps_set))]
     pub fn give(&mut self, ticket: Ticket) -> usize
         requires { self.old.given < length self.old.cells.now }
         ensures number { result ≡ self.old.given + 1 }
@@ -56,6 +57,7 @@ impl<'a> Held<'a> {
     }
 
     // Takes it out of its cell.
+    #[tactic(auto, using(crate::proofs::Holding::keeps_set, crate::proofs::Holding::cell_given, crate::proofs::Holding::set_given))]
     pub fn take(&mut self, number: usize) -> Option<Ticket>
         ensures ticket { result ≡ ticket_at (tickets_of self.old) number }
         ensures tickets { tickets_of self.new ≡ set_ticket (tickets_of self.old) number None }
@@ -69,6 +71,7 @@ impl<'a> Held<'a> {
     }
 
     // Puts it back.
+    #[tactic(auto, using(crate::proofs::Holding::keeps_set, crate::proofs::Holding::cell_given, crate::proofs::Holding::set_given))]
     pub fn put_back(&mut self, number: usize, ticket: Ticket)
         ensures tickets { tickets_of self.new ≡ set_ticket (tickets_of self.old) number (Some ticket) }
         ensures keeps { Keeps self.old self.new }

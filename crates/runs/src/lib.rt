@@ -21,7 +21,7 @@ use serial::Pair;
 use std::fmt;
 
 // One call on a book. A ticket goes by its number: the first that is given is 1.
-#[derive(Clone, Copy)]
+#[derive(Drop)]
 pub enum Call<'a, K> {
     Enter(Entry<K>),
     ReadIn(&'a [u8]),

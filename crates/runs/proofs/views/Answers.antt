@@ -9,4 +9,4 @@ returns g c =
     let alike = g.K.Item.alike in
     let same : Sameness alike = record { reflexive = g.met.K.Item.reflexive; symmetric = g.met.K.Item.symmetric; transitive = g.met.K.Item.transitive } in
     let shown : c.map.result ≡ option_map (λ n. record { list = c.views.new.list; count = n }) c.in_ok-order.order = search rules in
-    views_right alike same (accepted c.args.book.now) 64 (replicate 64 0) c.views.new.list c.in_ok-order.order c.map.result c.in_ok-order.ensures.answer c.in_ok-order.ensures.list shown
+    rw shown (views_right alike same (accepted c.args.book.now) 64 (replicate 64 0) c.views.new.list c.in_ok-order.order c.in_ok-order.ensures.answer c.in_ok-order.ensures.list)
