@@ -46,10 +46,5 @@ module _ {K : Type 0} (parsed : List ℕ → Option K) (places : ℕ) where
       go (Err g) is e =
           let pair : ◌≡◌ {A = Ticket × Refusal} (u, f) (t, g) = cc in
           let same : u ≡ t = ap (λ (q : Ticket × Refusal). q.0) pair in
-          let added : one_under (λ v. one (under v (act_of d)) (entered places es v.cue)) (ticket_at ts n) ≡ [] =
-          ap (one_under (λ v. one (under v (act_of d)) (entered places es v.cue))) there ∙ ap (one (under t (act_of d))) is in
-          let left : used ts n (λ v. entered places es v.cue) (ticket_at ts n) ≡ ts =
-          ap (used ts n (λ v. entered places es v.cue)) there ∙ ap (used_by ts n) is in
-          let back : set_ticket (set_ticket ts n None) n (Some u) ≡ ts = ap (λ (v : Ticket). set_ticket (set_ticket ts n None) n (Some v)) same ∙ put_back ts n t there in
-          let grown : es ≡ es ++ one_under (λ v. one (under v (act_of d)) (entered places es v.cue)) (ticket_at ts n) = sym (append-nil es) ∙ ap (λ (zs : List (Entry K)). es ++ zs) (sym added) in
-          λ i. record { entries = grown i; tickets = (back ∙ sym left) i }
+          let back : set_ticket (set_ticket ts n None) n (Some u) ≡ ts = rw same (put_back ts n t there) in
+          rw (there, is) (λ i. record { entries = sym (append-nil es) i; tickets = back i })

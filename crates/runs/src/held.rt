@@ -1,5 +1,5 @@
 // The tickets that a run has given, by number.
-ghost use Rattle.std.specs.Prelude.{◌≡◌, ◌+◌, ◌<◌, ◌≤◌, Some, None, ◌∷◌, [], ◌++◌, length, option_copied};
+ghost use Rattle.std.specs.Prelude.{◌≡◌, ◌+◌, ◌<◌, ◌≤◌, ◌∷◌, [], ◌++◌, length, option_copied};
 ghost use Rattle.runs.specs.Runs.{is_given, ticket_at};
 
 use book::Ticket;

@@ -5,7 +5,7 @@ ghost use Rattle.std.specs.Prelude.{◌≡◌, ◌<◌, min, length};
 ghost use Rattle.book.specs.Entering.{room, accepted, Lays};
 ghost use Rattle.runs.specs.declared.Failure.TheVariants.{Refused, Fault};
 ghost use Rattle.runs.specs.Answers.{cues_of, OrderRight, ViewsRight};
-ghost use Rattle.runs.specs.Holding.{tickets_of, so_far, Keeps};
+ghost use Rattle.runs.specs.Holding.{so_far, Keeps};
 ghost use Rattle.runs.specs.Runs.{Right, after, wanted, Ran};
 
 mod held;
@@ -37,8 +37,8 @@ pub enum Call<'a, K> {
 // Cues in their order: the first `count` cells. The memory is fixed, since an answer owns its cues and there is no heap.
 #[derive(Clone, Copy)]
 pub struct Cues {
-    pub list: [u32; 64],
-    pub count: usize,
+    list: [u32; 64],
+    count: usize,
 }
 
 impl Cues {
@@ -189,6 +189,7 @@ pub fn perform<K: Item>(
     }
     let mut book = Book::new(memory);
     let mut held = Held::new(tickets);
+    // By index: of cells that are written through an `iter_mut` beside the calls a proof knows nothing afterwards.
     for (k, call) in calls.iter().enumerate() {
         answers[k] = perform_one(&mut book, &mut held, call);
     }
