@@ -1,18 +1,17 @@
 -- What reading in, and an ending that is refused, leave. Assumes nothing.
-use Rattle.std.proofs.Common.{◌≡◌, ℕ, ◌+◌, List, [], ◌∷◌, ◌++◌, length, drop, Some, None, Ok, Err, Option, Result, sym, refl, ap, ◌∙◌, append_assoc, append-nil, arith}
+use Rattle.std.proofs.Common.{◌≡◌, ℕ, ◌+◌, List, [], ◌∷◌, ◌++◌, length, drop, Some, None, Ok, Err, Option, Result, sym, refl, ap, ◌∙◌, append_assoc, append-nil}
 use Rattle.std.proofs.lemmas.List.{drop_at}
 use Rattle.refusals.specs.declared.Refusal.{Refusal}
 use Rattle.refusals.specs.declared.Layer.{Layer}
 use Rattle.history.specs.declared.Ending.{Ending}
 use Rattle.history.specs.declared.Entry.{Entry}
-use Rattle.history.specs.Endings.{act_of}
 use Rattle.book.specs.declared.tickets.Ticket.{Ticket}
 use Rattle.book.specs.Entering.{entered}
 use Rattle.book.specs.Reading.{lines_of, line_entered, step, read_from, read_in}
-use Rattle.book.specs.Tickets.{under, closed}
+use Rattle.book.specs.Tickets.{closed}
 use Rattle.runs.specs.declared.Call.TheVariants as call
 use Rattle.runs.specs.Holding.{set_ticket}
-use Rattle.runs.specs.Runs.{ticket_at, one, one_under, used, used_by, after}
+use Rattle.runs.specs.Runs.{ticket_at, after}
 use Rattle.runs.proofs.Holding.{put_back}
 
 -- reading in only adds

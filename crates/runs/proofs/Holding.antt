@@ -1,5 +1,5 @@
 -- Tickets in their cells. Assumes nothing.
-use Rattle.std.proofs.Common.{◌≡◌, ℕ, zero, suc, ◌-◌, ◌<◌, ◌≤◌, Bool, true, false, cond, List, [], ◌∷◌, length, get_or, take, drop, set, Some, None, Option, refl, sym, ap, ◌∙◌, leb, arith}
+use Rattle.std.proofs.Common.{◌≡◌, ℕ, ◌-◌, ◌<◌, ◌≤◌, Bool, true, false, cond, List, length, get_or, take, drop, set, Some, None, Option, refl, sym, ap, ◌∙◌, leb, arith}
 use Rattle.std.proofs.lemmas.List.{length-set, length-take-le, drop-set-lt, set-get_or, set-set}
 use Rattle.std.proofs.Math.Seq.{take-set-lt}
 use Rattle.std.proofs.lemmas.Bool.{and_parts, cond-true, leb-true}

@@ -1,5 +1,5 @@
 -- The answers about orders and views are right. Assumes nothing.
-use Rattle.std.proofs.Common.{◌≡◌, ℕ, ◌≤◌, Bool, true, false, cond, ltb, List, length, take, drop, Some, None, Ok, Err, Option, option_map, sym, refl, ap, ◌∙◌, subst, arith}
+use Rattle.std.proofs.Common.{◌≡◌, ℕ, ◌≤◌, Bool, true, false, cond, ltb, List, length, take, drop, Some, None, Ok, Option, option_map, sym, refl, ap, ◌∙◌, subst, arith}
 use Rattle.std.proofs.lemmas.List.{take_at}
 use Rattle.std.proofs.lemmas.Bool.{cond-false, le-ltb, ltb-false}
 use Rattle.refusals.specs.declared.Refusal.{Refusal}
@@ -17,7 +17,6 @@ use Rattle.equivalence.proofs.SameViews.{view_is_same_lem}
 use Rattle.serial.specs.OrderAnswer.{order_refusal, OrderFound, CycleFound, OrderOrCycle, ShownView}
 use Rattle.views.specs.Answer.{views_refusal, answered, left}
 use Rattle.runs.specs.declared.Answer.TheVariants as answer
-use Rattle.runs.specs.declared.Cues.{Cues}
 use Rattle.runs.specs.Answers.{OrderShown, CycleShown, ViewsShown, NoneShown, ViewsRight}
 
 module _ {K : Type 0} (alike : K → K → Bool) (es : List (Entry K)) (list cells : List ℕ) (n : ℕ) where
