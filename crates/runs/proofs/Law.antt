@@ -62,19 +62,19 @@ module _ {K : Type 0} (alike : K → K → Bool) where
   module _ (parsed : List ℕ → Option K) (places : ℕ) where
     -- an answer that is right speaks of the entries so far
     right_says : (s : State K) (c : Call K) (a : Result Answer Failure) → Right alike parsed places s c a → Says s.entries a
-    right_says s (call.Enter e) a h = subst (Says s.entries) (sym h) (told_says s.entries answer.Place failure.Refused (entered places s.entries e.cue) (λ p. tt))
-    right_says s (call.ReadIn sheet) a h = subst (Says s.entries) (sym h) (told_says s.entries answer.Lines failure.Fault (read_in parsed places s.entries sheet.now).answer (λ n. tt))
-    right_says s (call.Begin n) a h = subst (Says s.entries) (sym h) (told_says s.entries (λ t. answer.Ticket _) failure.Refused (begun s.entries n) (λ t. tt))
+    right_says s (call.Enter e) a h = rw h (told_says s.entries answer.Place failure.Refused (entered places s.entries e.cue) (λ p. tt))
+    right_says s (call.ReadIn sheet) a h = rw h (told_says s.entries answer.Lines failure.Fault (read_in parsed places s.entries sheet.now).answer (λ n. tt))
+    right_says s (call.Begin n) a h = rw h (told_says s.entries (λ t. answer.Ticket _) failure.Refused (begun s.entries n) (λ t. tt))
     right_says s (call.Record n step) a h =
         let says = λ (t : Ticket). told_says s.entries answer.Place failure.Refused (entered places s.entries t.cue) (λ p. tt) in
-        subst (Says s.entries) (sym h) (held_says s.entries (λ t. place_or (entered places s.entries t.cue)) says (ticket_at s.tickets n))
+        rw h (held_says s.entries (λ t. place_or (entered places s.entries t.cue)) says (ticket_at s.tickets n))
     right_says s (call.End n ending) a h =
         let says = λ (t : Ticket). told_says s.entries (λ p. answer.Receipt p ending) failure.Refused (entered places s.entries t.cue) (λ p. tt) in
-        subst (Says s.entries) (sym h) (held_says s.entries (λ t. receipt_or ending (entered places s.entries t.cue)) says (ticket_at s.tickets n))
-    right_says s call.Class a h = subst (Says s.entries) (sym h) refl
+        rw h (held_says s.entries (λ t. receipt_or ending (entered places s.entries t.cue)) says (ticket_at s.tickets n))
+    right_says s call.Class a h = rw h refl
     right_says s call.Order a h = order_says s.entries a h
     right_says s call.Views a h = views_say s.entries a h
-    right_says s (call.Why i j) a h = subst (Says s.entries) (sym h.0) (told_says s.entries answer.Why failure.Refused (why_answer alike s.entries i j) (λ w. tt))
+    right_says s (call.Why i j) a h = rw h.0 (told_says s.entries answer.Why failure.Refused (why_answer alike s.entries i j) (λ w. tt))
 
     -- an answer of the run speaks of the entries so far and what was accepted after them
     record Said (es : List (Entry K)) (a : Result Answer Failure) : Type 0 where
