@@ -3,7 +3,7 @@ use Rattle.std.proofs.Common.{◌≡◌, ℕ, Bool, true, false, not, ◌&&◌, 
 use Rattle.std.specs.Option.{option_map}
 use Rattle.std.proofs.lemmas.Bool.{both_ways, false≢true, and_from, and_parts, eq-eqb, eqb-true, ne_eqb, not_from_false, or_cases, or_left, or_right}
 use Rattle.lists.specs.Lists.{last_where, placed}
-use Rattle.orders.specs.Least.{Stands, StandsIn, Rearranges}
+use Rattle.orders.specs.Least.{Stands, Rearranges}
 use Rattle.orders.specs.Orders.{precedes}
 use Rattle.history.specs.declared.Act.{Act}
 use Rattle.history.specs.declared.Act.TheVariants.{Read, Write}
@@ -30,10 +30,10 @@ no_true false h = refl
 
 module _ {K : Type 0} (alike : K → K → Bool) (same : Sameness alike) (es : List (Entry K)) (o : List ℕ) (h : Rearranges (committed_cues es) o) where
   -- an entry of a committed cue that reads or writes is in the committed list
-  counted : (p : ℕ × Entry K) → StandsIn p (placed 1 es) → committed es p.1.cue ≡ true → touches (λ k. true) p.1.act ≡ true → StandsIn p (committed_list es)
+  counted : (p : ℕ × Entry K) → Stands p (placed 1 es) → committed es p.1.cue ≡ true → touches (λ k. true) p.1.act ≡ true → Stands p (committed_list es)
   counted p i c t = kept_from (λ q. counts es q.1) (placed 1 es) p i (and_from (committed es p.1.cue) (touches (λ k. true) p.1.act) c t)
 
-  module _ (p : ℕ × Entry K) (i : StandsIn p (committed_list es)) (before after : List (Entry K)) (cut : Cut 1 es p before after) (k : K) where
+  module _ (p : ℕ × Entry K) (i : Stands p (committed_list es)) (before after : List (Entry K)) (cut : Cut 1 es p before after) (k : K) where
     -- a read of k is none of its writes
     side : p.1.act ≡ Read k → (x : ℕ × Entry K) → Writes alike es k x → Under x p ⊎ Under p x
     side e x m =
@@ -72,17 +72,17 @@ module _ {K : Type 0} (alike : K → K → Bool) (same : Sameness alike) (es : L
     parting j q n k = read_apart alike (committed es) k p.1.cue before after (last_writer alike (committed es) k before) j q n
 
   module _ (v : view_equivalent alike es o ≡ true) where
-    viewed : (p : ℕ × Entry K) → StandsIn p (committed_list es) → (not (rereads alike (committed_list es) (serial_list (committed_list es) o) p) ≡ true) × (not (leaves alike (committed_list es) (serial_list (committed_list es) o) p) ≡ true)
+    viewed : (p : ℕ × Entry K) → Stands p (committed_list es) → (not (rereads alike (committed_list es) (serial_list (committed_list es) o) p) ≡ true) × (not (leaves alike (committed_list es) (serial_list (committed_list es) o) p) ≡ true)
     viewed p i =
         and_parts (not (rereads alike (committed_list es) (serial_list (committed_list es) o) p)) (not (leaves alike (committed_list es) (serial_list (committed_list es) o) p))
         (every_of (λ p. not (rereads alike (committed_list es) (serial_list (committed_list es) o) p) && not (leaves alike (committed_list es) (serial_list (committed_list es) o) p)) (committed_list es) v p i)
 
-    viewed_source : (p : ℕ × Entry K) (k : K) → StandsIn p (committed_list es) → p.1.act ≡ Read k → source_at alike k p.0 (committed_list es) ≡ source_at alike k p.0 (serial_list (committed_list es) o)
+    viewed_source : (p : ℕ × Entry K) (k : K) → Stands p (committed_list es) → p.1.act ≡ Read k → source_at alike k p.0 (committed_list es) ≡ source_at alike k p.0 (serial_list (committed_list es) o)
     viewed_source p k i e =
         eqb-true (source_at alike k p.0 (committed_list es)) (source_at alike k p.0 (serial_list (committed_list es) o))
         (kept_read (λ k. eqb (source_at alike k p.0 (committed_list es)) (source_at alike k p.0 (serial_list (committed_list es) o))) p.1.act k (viewed p i).0 e)
 
-    viewed_last : (p : ℕ × Entry K) (k : K) → StandsIn p (committed_list es) → p.1.act ≡ Write k → last_write alike k (committed_list es) ≡ last_write alike k (serial_list (committed_list es) o)
+    viewed_last : (p : ℕ × Entry K) (k : K) → Stands p (committed_list es) → p.1.act ≡ Write k → last_write alike k (committed_list es) ≡ last_write alike k (serial_list (committed_list es) o)
     viewed_last p k i e =
         eqb-true (last_write alike k (committed_list es)) (last_write alike k (serial_list (committed_list es) o))
         (kept_write (λ k. eqb (last_write alike k (committed_list es)) (last_write alike k (serial_list (committed_list es) o))) p.1.act k (viewed p i).1 e)
@@ -130,7 +130,7 @@ module _ {K : Type 0} (alike : K → K → Bool) (same : Sameness alike) (es : L
     }
 
   module _ (a : Allows alike es o) where
-    source_stays : (p : ℕ × Entry K) → StandsIn p (committed_list es) → (k : K) → p.1.act ≡ Read k → source_at alike k p.0 (committed_list es) ≡ source_at alike k p.0 (serial_list (committed_list es) o)
+    source_stays : (p : ℕ × Entry K) → Stands p (committed_list es) → (k : K) → p.1.act ≡ Read k → source_at alike k p.0 (committed_list es) ≡ source_at alike k p.0 (serial_list (committed_list es) o)
     source_stays p i k e =
         let c = committed_of es p i in
         let r = cut_amid 1 es p c.0 in

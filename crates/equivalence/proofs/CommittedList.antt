@@ -2,7 +2,7 @@
 use Rattle.std.proofs.Common.{◌≡◌, ℕ, ◌<◌, true, List, ◌∙◌}
 use Rattle.std.proofs.lemmas.Bool.{and_parts}
 use Rattle.lists.specs.Lists.{placed}
-use Rattle.orders.specs.Least.{Stands, StandsIn, Rearranges, Distinct}
+use Rattle.orders.specs.Least.{Stands, Rearranges, Distinct}
 use Rattle.orders.proofs.Precedence.{rearranged_has, rearranged_distinct}
 use Rattle.history.specs.declared.Entry.{Entry}
 use Rattle.history.specs.Conflicts.{touches}
@@ -18,7 +18,7 @@ module _ {K : Type 0} (es : List (Entry K)) where
   committed_rise = ordered_kept Under (λ p. counts es p.1) (placed 1 es) (placed_rise 1 es)
 
   -- what an entry of the committed list is
-  pub committed_of : (x : ℕ × Entry K) → StandsIn x (committed_list es) → StandsIn x (placed 1 es) × (0 < x.0) × StandsIn x.1 es × (committed es x.1.cue ≡ true)
+  pub committed_of : (x : ℕ × Entry K) → Stands x (committed_list es) → Stands x (placed 1 es) × (0 < x.0) × Stands x.1 es × (committed es x.1.cue ≡ true)
   committed_of x i =
       let k = kept_of (λ p. counts es p.1) (placed 1 es) x i in
       let p = placed_from 1 es x k.0 in
@@ -28,6 +28,6 @@ module _ {K : Type 0} (es : List (Entry K)) where
     pub committed_once : Distinct o
     committed_once = rearranged_distinct (committed_cues es) o h
 
-    pub committed_cover : (x : ℕ × Entry K) → StandsIn x (committed_list es) → Stands x.1.cue o
+    pub committed_cover : (x : ℕ × Entry K) → Stands x (committed_list es) → Stands x.1.cue o
     committed_cover x i =
         has_stands x.1.cue o (rearranged_has (committed_cues es) o h x.1.cue ∙ has_committed es x.1.cue ∙ (committed_of x i).3)

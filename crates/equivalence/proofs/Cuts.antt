@@ -2,7 +2,7 @@
 use Rattle.std.proofs.Common.{◌≡◌, ℕ, suc, ◌<◌, Bool, true, ◌⊎◌, List, [], ◌∷◌, ◌++◌, sym, refl, ap, ◌∙◌, subst, inl, inr, append_assoc, append-nil, arith}
 use Rattle.std.proofs.lemmas.Bool.{false≢true, or_cases, or_left, or_right}
 use Rattle.lists.specs.Lists.{placed}
-use Rattle.orders.specs.Least.{StandsIn}
+use Rattle.orders.specs.Least.{Stands}
 use Rattle.equivalence.specs.Constraints.{amid}
 use Rattle.equivalence.proofs.Standing.{stands_left, stands_right, stands_either}
 use Rattle.equivalence.proofs.Ordered.{Ordered, placed_rise}
@@ -22,7 +22,7 @@ module _ {X : Type 0} where
             (r.0, x ∷ r.1, r.2, ap (λ (l : List (ℕ × X)). (n, x) ∷ l) r.3, ap (λ (l : List X). test l r.0.1 r.2) (sym (append_assoc seen (x ∷ []) r.1)) ∙ r.4)
       ]
 
-  pub cut_amid : (n : ℕ) (xs : List X) (p : ℕ × X) → StandsIn p (placed n xs) → (before : List X) × (after : List X) × Cut n xs p before after × ((test : List X → X → List X → Bool) (seen : List X) → test (seen ++ before) p.1 after ≡ true → amid test seen xs ≡ true)
+  pub cut_amid : (n : ℕ) (xs : List X) (p : ℕ × X) → Stands p (placed n xs) → (before : List X) × (after : List X) × Cut n xs p before after × ((test : List X → X → List X → Bool) (seen : List X) → test (seen ++ before) p.1 after ≡ true → amid test seen xs ≡ true)
   cut_amid n [] p h = absurd h
   cut_amid n (x ∷ xs) p (inl e) = (
     [],
@@ -40,7 +40,7 @@ module _ {X : Type 0} where
             (r.3 test (seen ++ x ∷ []) (ap (λ (l : List X). test l p.1 r.1) (append_assoc seen (x ∷ []) r.0) ∙ t)),
       )
 
-  ordered_across : (R : X → X → Type 0) (xs ys : List X) → Ordered R (xs ++ ys) → (x y : X) → StandsIn x xs → StandsIn y ys → R x y
+  ordered_across : (R : X → X → Type 0) (xs ys : List X) → Ordered R (xs ++ ys) → (x y : X) → Stands x xs → Stands y ys → R x y
   ordered_across R [] ys u x y i j = absurd i
   ordered_across R (z ∷ xs) ys u x y (inl e) j = subst (λ (v : X). R v y) e (u.0 y (stands_right y xs ys j))
   ordered_across R (z ∷ xs) ys u x y (inr i) j = ordered_across R xs ys u.1 x y i j
@@ -57,26 +57,26 @@ module _ {X : Type 0} (n : ℕ) (xs : List X) (p : ℕ × X) (before after : Lis
   rises : Ordered Rises (placed n before ++ p ∷ placed (suc p.0) after)
   rises = subst (Ordered Rises) cut (placed_rise n xs)
 
-  into : (x : ℕ × X) → StandsIn x (placed n before ++ p ∷ placed (suc p.0) after) → StandsIn x (placed n xs)
-  into x m = subst (λ (l : List (ℕ × X)). StandsIn x l) (sym cut) m
+  into : (x : ℕ × X) → Stands x (placed n before ++ p ∷ placed (suc p.0) after) → Stands x (placed n xs)
+  into x m = subst (λ (l : List (ℕ × X)). Stands x l) (sym cut) m
 
   -- where x stands in the list
-  part : (x : ℕ × X) → StandsIn x (placed n xs) → StandsIn x (placed n before) ⊎ ((p ≡ x) ⊎ StandsIn x (placed (suc p.0) after))
-  part x m = stands_either x (placed n before) (p ∷ placed (suc p.0) after) (subst (λ (l : List (ℕ × X)). StandsIn x l) cut m)
+  part : (x : ℕ × X) → Stands x (placed n xs) → Stands x (placed n before) ⊎ ((p ≡ x) ⊎ Stands x (placed (suc p.0) after))
+  part x m = stands_either x (placed n before) (p ∷ placed (suc p.0) after) (subst (λ (l : List (ℕ × X)). Stands x l) cut m)
 
-  under_p : (x : ℕ × X) → StandsIn x (placed n before) → x.0 < p.0
+  under_p : (x : ℕ × X) → Stands x (placed n before) → x.0 < p.0
   under_p x m = ordered_across Rises (placed n before) (p ∷ placed (suc p.0) after) rises x p m (inl refl)
 
-  over_p : (x : ℕ × X) → StandsIn x (placed (suc p.0) after) → p.0 < x.0
+  over_p : (x : ℕ × X) → Stands x (placed (suc p.0) after) → p.0 < x.0
   over_p x m = (ordered_right Rises (placed n before) (p ∷ placed (suc p.0) after) rises).0 x m
 
-  pub cut_stands : StandsIn p (placed n xs)
+  pub cut_stands : Stands p (placed n xs)
   cut_stands = into p (stands_right p (placed n before) (p ∷ placed (suc p.0) after) (inl refl))
 
-  pub before_stands : (x : ℕ × X) → StandsIn x (placed n before) → StandsIn x (placed n xs) × (x.0 < p.0)
+  pub before_stands : (x : ℕ × X) → Stands x (placed n before) → Stands x (placed n xs) × (x.0 < p.0)
   before_stands x m = (into x (stands_left x (placed n before) (p ∷ placed (suc p.0) after) m), under_p x m)
 
-  pub stands_before : (x : ℕ × X) → StandsIn x (placed n xs) → x.0 < p.0 → StandsIn x (placed n before)
+  pub stands_before : (x : ℕ × X) → Stands x (placed n xs) → x.0 < p.0 → Stands x (placed n before)
   stands_before x m l =
       elim (part x m) [
         | inl i ↦ i
@@ -84,10 +84,10 @@ module _ {X : Type 0} (n : ℕ) (xs : List X) (p : ℕ × X) (before after : Lis
         | inr (inr i) ↦ absurd (omega (arith, over_p x i))
       ]
 
-  pub after_stands : (x : ℕ × X) → StandsIn x (placed (suc p.0) after) → StandsIn x (placed n xs) × (p.0 < x.0)
+  pub after_stands : (x : ℕ × X) → Stands x (placed (suc p.0) after) → Stands x (placed n xs) × (p.0 < x.0)
   after_stands x m = (into x (stands_right x (placed n before) (p ∷ placed (suc p.0) after) (inr m)), over_p x m)
 
-  pub stands_after : (x : ℕ × X) → StandsIn x (placed n xs) → p.0 < x.0 → StandsIn x (placed (suc p.0) after)
+  pub stands_after : (x : ℕ × X) → Stands x (placed n xs) → p.0 < x.0 → Stands x (placed (suc p.0) after)
   stands_after x m l =
       elim (part x m) [
         | inl i ↦ absurd (omega (arith, under_p x i))

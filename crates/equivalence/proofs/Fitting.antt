@@ -5,9 +5,8 @@ use Rattle.std.proofs.lemmas.Bool.{false≢true, both_ways, cases_eq, cond-true,
 use Rattle.lists.specs.Lists.{some, has, last_where}
 use Rattle.lists.proofs.Last.{last_passes}
 use Rattle.orders.specs.Orders.{precedes, first_where, orders}
-use Rattle.orders.specs.Least.{StandsIn, Distinct, Rearranges}
+use Rattle.orders.specs.Least.{Stands, Distinct, Rearranges}
 use Rattle.orders.proofs.Precedence.{precedes_has, stands_has, rearranged_has, rearranged_distinct}
-use Rattle.orders.proofs.Standing.{in_from_stands, stands_from_in}
 use Rattle.orders.proofs.Same.{same_first}
 use Rattle.history.specs.declared.Act.{Act}
 use Rattle.history.specs.declared.Act.TheVariants.{Read, Write, Commit, Abort}
@@ -25,8 +24,8 @@ use Rattle.equivalence.proofs.Extended.{none_first}
 
 -- an order with its first number
 module _ (x : ℕ) (rest : List ℕ) where
-  leads : (a b : ℕ) → x ≡ a → StandsIn b rest → precedes a b (x ∷ rest) ≡ true
-  leads a b e s = cond-true (eqb x a) (has b rest) (precedes a b rest) (eq-eqb x a e) ∙ stands_has b rest (stands_from_in b rest s)
+  leads : (a b : ℕ) → x ≡ a → Stands b rest → precedes a b (x ∷ rest) ≡ true
+  leads a b e s = cond-true (eqb x a) (has b rest) (precedes a b rest) (eq-eqb x a e) ∙ stands_has b rest s
 
   later : (a b : ℕ) → (x ≡ a → ⊥) → precedes a b (x ∷ rest) ≡ precedes a b rest
   later a b n = cond-false (eqb x a) (has b rest) (precedes a b rest) (ne_eqb x a n)
@@ -34,10 +33,10 @@ module _ (x : ℕ) (rest : List ℕ) where
   first_never : has x rest ≡ false → (a : ℕ) → (x ≡ a → ⊥) → precedes a x (x ∷ rest) ≡ true → ⊥
   first_never d a n h = both_ways (has x rest) d (precedes_has a x rest (sym (later a x n) ∙ h))
 
-  not_first : has x rest ≡ false → (a : ℕ) → StandsIn a rest → x ≡ a → ⊥
-  not_first d a s e = both_ways (has x rest) d (ap (λ (m : ℕ). has m rest) e ∙ stands_has a rest (stands_from_in a rest s))
+  not_first : has x rest ≡ false → (a : ℕ) → Stands a rest → x ≡ a → ⊥
+  not_first d a s e = both_ways (has x rest) d (ap (λ (m : ℕ). has m rest) e ∙ stands_has a rest s)
 
-  in_rest : (a : ℕ) → (x ≡ a → ⊥) → StandsIn a (x ∷ rest) → StandsIn a rest
+  in_rest : (a : ℕ) → (x ≡ a → ⊥) → Stands a (x ∷ rest) → Stands a rest
   in_rest a n s = ⊎_elim (λ e. absurd (n e)) (λ k. k) s
 
 false_from : (b : Bool) → (b ≡ true → ⊥) → b ≡ false
@@ -47,17 +46,17 @@ false_from false h = refl
 -- the two rules, said of an order that comes after seen
 module _ (ahead : ℕ → ℕ → Bool) (apart : ℕ → ℕ → ℕ → Bool) where
   record Keeps (seen o : List ℕ) : Type 0 where
-    pub in_turn : (a b : ℕ) → StandsIn a o → StandsIn b o → (a ≡ b → ⊥) → ahead a b ≡ true → precedes a b o ≡ true
-    pub since : (j r n : ℕ) → StandsIn j seen → StandsIn r o → StandsIn n o → (r ≡ n → ⊥) → apart j r n ≡ true → precedes r n o ≡ true
-    pub outside : (j r n : ℕ) → StandsIn j o → StandsIn r o → StandsIn n o → (n ≡ j → ⊥) → (r ≡ n → ⊥) → apart j r n ≡ true → (precedes n j o ≡ true) ⊎ (precedes r n o ≡ true)
+    pub in_turn : (a b : ℕ) → Stands a o → Stands b o → (a ≡ b → ⊥) → ahead a b ≡ true → precedes a b o ≡ true
+    pub since : (j r n : ℕ) → Stands j seen → Stands r o → Stands n o → (r ≡ n → ⊥) → apart j r n ≡ true → precedes r n o ≡ true
+    pub outside : (j r n : ℕ) → Stands j o → Stands r o → Stands n o → (n ≡ j → ⊥) → (r ≡ n → ⊥) → apart j r n ≡ true → (precedes n j o ≡ true) ⊎ (precedes r n o ≡ true)
 
   -- x may come first exactly when the rules, kept by the rest after it, are kept with it
   module _ (seen : List ℕ) (x : ℕ) (rest : List ℕ) where
     keeps_more : may_come ahead apart seen x rest ≡ true → Keeps (x ∷ seen) rest → Keeps seen (x ∷ rest)
     keeps_more m k =
         let p = and_parts (not (some (λ i. ahead i x) rest)) (not (some (λ j. some (λ i. apart j i x) rest) seen)) m in
-        let none_ahead_lem : (i : ℕ) → StandsIn i rest → ahead i x ≡ false = some_of (λ i. ahead i x) rest (not-true (some (λ i. ahead i x) rest) p.0) in
-        let none_apart_lem : (j : ℕ) → StandsIn j seen → (i : ℕ) → StandsIn i rest → apart j i x ≡ false =
+        let none_ahead_lem : (i : ℕ) → Stands i rest → ahead i x ≡ false = some_of (λ i. ahead i x) rest (not-true (some (λ i. ahead i x) rest) p.0) in
+        let none_apart_lem : (j : ℕ) → Stands j seen → (i : ℕ) → Stands i rest → apart j i x ≡ false =
         λ j s. some_of (λ i. apart j i x) rest (some_of (λ j. some (λ i. apart j i x) rest) seen (not-true (some (λ j. some (λ i. apart j i x) rest) seen) p.1) j s) in
         record {
           in_turn = λ a b sa sb ne h. elim (cases_eq x a) [
@@ -103,8 +102,8 @@ module _ (ahead : ℕ → ℕ → Bool) (apart : ℕ → ℕ → ℕ → Bool) w
 
       keeps_rest : Keeps (x ∷ seen) rest
       keeps_rest =
-          let away : (a : ℕ) → StandsIn a rest → x ≡ a → ⊥ = not_first x rest d in
-          let back : (a b : ℕ) → StandsIn a rest → precedes a b (x ∷ rest) ≡ true → precedes a b rest ≡ true = λ a b s h. sym (later x rest a b (away a s)) ∙ h in
+          let away : (a : ℕ) → Stands a rest → x ≡ a → ⊥ = not_first x rest d in
+          let back : (a b : ℕ) → Stands a rest → precedes a b (x ∷ rest) ≡ true → precedes a b rest ≡ true = λ a b s h. sym (later x rest a b (away a s)) ∙ h in
           record {
             in_turn = λ a b sa sb ne h. back a b sa (k.in_turn a b (inr sa) (inr sb) ne h);
             since = λ j r n sj sr sn ne h. elim sj [
@@ -244,8 +243,8 @@ module _ {K : Type 0} (alike : K → K → Bool) (c : ℕ → Bool) where
 module _ {K : Type 0} (alike : K → K → Bool) (es : List (Entry K)) where
   -- an order of the committed cues
   module _ (o : List ℕ) (re : Rearranges (committed_cues es) o) where
-    stands_committed : (m : ℕ) → committed es m ≡ true → StandsIn m o
-    stands_committed m h = in_from_stands m o (has_stands m o (rearranged_has (committed_cues es) o re m ∙ has_committed es m ∙ h))
+    stands_committed : (m : ℕ) → committed es m ≡ true → Stands m o
+    stands_committed m h = has_stands m o (rearranged_has (committed_cues es) o re m ∙ has_committed es m ∙ h)
 
     allows_fits : Allows alike es o → (not (is_hidden alike es) && fits (is_ahead alike es) (is_apart alike es) o) ≡ true
     allows_fits l =

@@ -3,7 +3,7 @@ use Rattle.std.proofs.Common.{◌≡◌, ℕ, Bool, true, not, ◌&&◌, eqb, �
 use Rattle.std.specs.Option.{option_map}
 use Rattle.std.proofs.lemmas.Bool.{false≢true, and_parts, cases_Bool, eqb-true, eqb-false, not-true}
 use Rattle.lists.specs.Lists.{last_where}
-use Rattle.orders.specs.Least.{StandsIn, Rearranges}
+use Rattle.orders.specs.Least.{Stands, Rearranges}
 use Rattle.orders.specs.Orders.{precedes}
 use Rattle.history.specs.declared.Act.TheVariants.{Write}
 use Rattle.history.specs.declared.Entry.{Entry}
@@ -22,7 +22,7 @@ use Rattle.equivalence.proofs.Places.{lasts_decide, lasts_own}
 
 -- the cue of each write comes before the cue of the last one after it
 abbrev pub Follows : {K : Type 0} → (K → K → Bool) → List (Entry K) → List ℕ → Type 0
-Follows {K} alike es o = (k : K) (w : ℕ × Entry K) → StandsIn w (committed_list es) → w.1.act ≡ Write k → (s : ℕ × Entry K) → Last Under (λ x. Writes alike es k x × Under w x) (Some s) → (s.1.cue ≡ w.1.cue → ⊥) → precedes w.1.cue s.1.cue o ≡ true
+Follows {K} alike es o = (k : K) (w : ℕ × Entry K) → Stands w (committed_list es) → w.1.act ≡ Write k → (s : ℕ × Entry K) → Last Under (λ x. Writes alike es k x × Under w x) (Some s) → (s.1.cue ≡ w.1.cue → ⊥) → precedes w.1.cue s.1.cue o ≡ true
 
 module _ {K : Type 0} (alike : K → K → Bool) (same : Sameness alike) (es : List (Entry K)) (o : List ℕ) (h : Rearranges (committed_cues es) o) where
   -- the last write after a write is the last of all
@@ -34,7 +34,7 @@ module _ {K : Type 0} (alike : K → K → Bool) (same : Sameness alike) (es : L
       after x m (inr (inl u)) = inr (omega (arith, l.0.1))
       after x m (inr (inr u)) = l.1 x (m, u)
 
-  pub write_keeps : (k : K) (w : ℕ × Entry K) → StandsIn w (committed_list es) → w.1.act ≡ Write k → last_write alike k (committed_list es) ≡ last_write alike k (serial_list (committed_list es) o) → (a : Option (ℕ × Entry K)) → Last Under (λ x. Writes alike es k x × Under w x) a → (x y : ℕ) → write_ahead alike (committed es) w.1.cue (option_map (λ x. x.1.cue) a) x y ≡ true → precedes x y o ≡ true
+  pub write_keeps : (k : K) (w : ℕ × Entry K) → Stands w (committed_list es) → w.1.act ≡ Write k → last_write alike k (committed_list es) ≡ last_write alike k (serial_list (committed_list es) o) → (a : Option (ℕ × Entry K)) → Last Under (λ x. Writes alike es k x × Under w x) a → (x y : ℕ) → write_ahead alike (committed es) w.1.cue (option_map (λ x. x.1.cue) a) x y ≡ true → precedes x y o ≡ true
   write_keeps k w i e p None l x y t = absurd (false≢true t)
   write_keeps k w i e p (Some s) l x y t =
       let put : Writes alike es k w = (i, writes_from (alike k) w.1.act k e (same.reflexive k)) in

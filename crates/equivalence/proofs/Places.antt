@@ -1,7 +1,7 @@
 -- When the committed list and its serial list have the same last write, or the same source of a read. Assumes nothing.
 use Rattle.std.proofs.Common.{◌≡◌, ℕ, ◌<◌, Bool, true, ◌↔◌, List, Some, None, Option, sym, refl, ap, ◌∙◌, subst, arith}
 use Rattle.lists.specs.Lists.{last_where}
-use Rattle.orders.specs.Least.{StandsIn, Rearranges}
+use Rattle.orders.specs.Least.{Stands, Rearranges}
 use Rattle.history.specs.declared.Entry.{Entry}
 use Rattle.history.specs.Conflicts.{writes}
 use Rattle.history.specs.Order.{committed_cues}
@@ -12,12 +12,12 @@ use Rattle.equivalence.proofs.CommittedList.{committed_rise, committed_of, commi
 use Rattle.equivalence.proofs.Writers.{Writes}
 
 -- a list that rises by place from 1 on
-module _ {K : Type 0} (ps : List (ℕ × Entry K)) (rise : Ordered Under ps) (positive : (x : ℕ × Entry K) → StandsIn x ps → 0 < x.0) where
+module _ {K : Type 0} (ps : List (ℕ × Entry K)) (rise : Ordered Under ps) (positive : (x : ℕ × Entry K) → Stands x ps → 0 < x.0) where
   abbrev Inside : Option (ℕ × Entry K) → Type 0
   Inside None = Unit {0}
-  Inside (Some s) = StandsIn s ps
+  Inside (Some s) = Stands s ps
 
-  last_inside : (R : ℕ × Entry K → ℕ × Entry K → Type 0) (P : ℕ × Entry K → Type 0) → ((x : ℕ × Entry K) → P x → StandsIn x ps) → (a : Option (ℕ × Entry K)) → Last R P a → Inside a
+  last_inside : (R : ℕ × Entry K → ℕ × Entry K → Type 0) (P : ℕ × Entry K → Type 0) → ((x : ℕ × Entry K) → P x → Stands x ps) → (a : Option (ℕ × Entry K)) → Last R P a → Inside a
   last_inside R P f None l = tt
   last_inside R P f (Some s) l = f s l.0
 
@@ -28,7 +28,7 @@ module _ {K : Type 0} (ps : List (ℕ × Entry K)) (rise : Ordered Under ps) (po
   same_places (Some s) (Some t) i j e = ap Some (place_names ps rise s t i j e)
 
   -- of the last of one kind and the last of another, the places are the same exactly when the first is the last of the other kind
-  places_decide : (R S : ℕ × Entry K → ℕ × Entry K → Type 0) (P Q : ℕ × Entry K → Type 0) → Apart R → Apart S → ((x : ℕ × Entry K) → P x → StandsIn x ps) → ((x : ℕ × Entry K) → Q x → StandsIn x ps) → (a b c : Option (ℕ × Entry K)) → Last R P a → Last S Q b → Last R P c → (place_of a ≡ place_of b) ↔ Last S Q c
+  places_decide : (R S : ℕ × Entry K → ℕ × Entry K → Type 0) (P Q : ℕ × Entry K → Type 0) → Apart R → Apart S → ((x : ℕ × Entry K) → P x → Stands x ps) → ((x : ℕ × Entry K) → Q x → Stands x ps) → (a b c : Option (ℕ × Entry K)) → Last R P a → Last S Q b → Last R P c → (place_of a ≡ place_of b) ↔ Last S Q c
   places_decide R S P Q d e f g a b c l m n = (
     λ p. subst (Last S Q) (sym (same_places a b (last_inside R P f a l) (last_inside S Q g b m) p) ∙ last_same R P d a c l n) m,
     λ q. ap place_of (last_same R P d a c l n ∙ last_same S Q e c b q m),
@@ -49,7 +49,7 @@ module _ {K : Type 0} (alike : K → K → Bool) (es : List (Entry K)) (o : List
   pub lasts_own : Last Under (Writes alike es k) (last_where put (committed_list es))
   lasts_own = last_own (committed_list es) o (committed_rise es) (committed_once es o h) (committed_cover es o h) put
 
-  module _ (r : ℕ × Entry K) (at : StandsIn r (committed_list es)) where
+  module _ (r : ℕ × Entry K) (at : Stands r (committed_list es)) where
     abbrev Seen : ℕ × Entry K → Type 0
     Seen x = Writes alike es k x × Under x r
 
@@ -58,12 +58,12 @@ module _ {K : Type 0} (alike : K → K → Bool) (es : List (Entry K)) (o : List
 
     pub sources_own : Last Under Seen (last_where put (front r.0 (committed_list es)))
     sources_own =
-        last_turn Under Under (λ x. StandsIn x (committed_list es) × Under x r × (put x ≡ true)) Seen (λ x m. ((m.0, m.2), m.1)) (λ x m. (m.0.0, m.1, m.0.1)) (λ x y m n l. l)
+        last_turn Under Under (λ x. Stands x (committed_list es) × Under x r × (put x ≡ true)) Seen (λ x m. ((m.0, m.2), m.1)) (λ x m. (m.0.0, m.1, m.0.1)) (λ x y m n l. l)
         (last_where put (front r.0 (committed_list es))) (source_own (committed_list es) o (committed_rise es) (committed_once es o h) (committed_cover es o h) put r at)
 
     sources_serial : Last (Comes o) Shown (last_where put (front r.0 (serial_list (committed_list es) o)))
     sources_serial =
-        last_turn (Comes o) (Comes o) (λ x. StandsIn x (committed_list es) × Comes o x r × (put x ≡ true)) Shown (λ x m. ((m.0, m.2), m.1)) (λ x m. (m.0.0, m.1, m.0.1)) (λ x y m n l. l)
+        last_turn (Comes o) (Comes o) (λ x. Stands x (committed_list es) × Comes o x r × (put x ≡ true)) Shown (λ x m. ((m.0, m.2), m.1)) (λ x m. (m.0.0, m.1, m.0.1)) (λ x y m n l. l)
         (last_where put (front r.0 (serial_list (committed_list es) o))) (source_serial (committed_list es) o (committed_rise es) (committed_once es o h) (committed_cover es o h) put r at)
 
     pub sources_decide : (a : Option (ℕ × Entry K)) → Last Under Seen a → (source_at alike k r.0 (committed_list es) ≡ source_at alike k r.0 (serial_list (committed_list es) o)) ↔ Last (Comes o) Shown a

@@ -2,7 +2,7 @@
 use Rattle.std.proofs.Common.{◌≡◌, ℕ, Bool, true, false, not, ◌&&◌, eqb, List, [], ◌∷◌, None, sym, refl, ap, ◌∙◌, subst, inl, inr, ⊎_elim}
 use Rattle.std.proofs.lemmas.Bool.{false≢true, eqb-true, eq-eqb, cases_Bool, and_parts, and_from, not_from_false, or_cases}
 use Rattle.lists.specs.Lists.{some, last_where}
-use Rattle.orders.specs.Least.{StandsIn}
+use Rattle.orders.specs.Least.{Stands}
 use Rattle.history.specs.declared.Act.{Act}
 use Rattle.history.specs.declared.Act.TheVariants.{Read, Write, Commit, Abort}
 use Rattle.history.specs.declared.Entry.{Entry}
@@ -18,12 +18,12 @@ not_not false h = h
 
 -- searches in a list
 module _ {X : Type 0} where
-  some_stands : (test : X → Bool) (xs : List X) → some test xs ≡ true → (x : X) × StandsIn x xs × (test x ≡ true)
+  some_stands : (test : X → Bool) (xs : List X) → some test xs ≡ true → (x : X) × Stands x xs × (test x ≡ true)
   some_stands test [] h = absurd (false≢true h)
   some_stands test (y ∷ ys) h =
       ⊎_elim (λ t. (y, inl refl, t)) (λ k. let r = some_stands test ys k in (r.0, inr r.1, r.2)) (or_cases (test y) (some test ys) h)
 
-  last_none : (test : X → Bool) (xs : List X) → ((x : X) → StandsIn x xs → test x ≡ false) → last_where test xs ≡ None
+  last_none : (test : X → Bool) (xs : List X) → ((x : X) → Stands x xs → test x ≡ false) → last_where test xs ≡ None
   last_none test [] h = refl
   last_none test (y ∷ ys) h =
       let ih : last_where test ys ≡ None = last_none test ys (λ x m. h x (inr m)) in
@@ -79,14 +79,14 @@ module _ {K : Type 0} (alike : K → K → Bool) (ps ss : List (ℕ × Entry K))
       (λ k. ap not (eq-eqb (last_write alike k ps) (last_write alike k ss) (v.lasts k)))))
 
   -- and it is so where the test says so, if the second list has only entries of the first
-  module _ (same : Sameness alike) (part : (x : ℕ × Entry K) → StandsIn x ss → StandsIn x ps) (h : same_view alike ps ss ≡ true) where
+  module _ (same : Sameness alike) (part : (x : ℕ × Entry K) → Stands x ss → Stands x ps) (h : same_view alike ps ss ≡ true) where
     abbrev wrote : K → ℕ × Entry K → Bool
     wrote k p = writes (alike k) p.1.act
 
-    kept_at : (p : ℕ × Entry K) → StandsIn p ps → (not (rereads alike ps ss p) ≡ true) × (not (leaves alike ps ss p) ≡ true)
+    kept_at : (p : ℕ × Entry K) → Stands p ps → (not (rereads alike ps ss p) ≡ true) × (not (leaves alike ps ss p) ≡ true)
     kept_at p i = and_parts (not (rereads alike ps ss p)) (not (leaves alike ps ss p)) (every_of kept ps h p i)
 
-    source_same : (p : ℕ × Entry K) (k : K) → StandsIn p ps → p.1.act ≡ Read k → source_at alike k p.0 ps ≡ source_at alike k p.0 ss
+    source_same : (p : ℕ × Entry K) (k : K) → Stands p ps → p.1.act ≡ Read k → source_at alike k p.0 ps ≡ source_at alike k p.0 ss
     source_same p k i e =
         eqb-true (source_at alike k p.0 ps) (source_at alike k p.0 ss)
         (not_not (eqb (source_at alike k p.0 ps) (source_at alike k p.0 ss))

@@ -4,7 +4,7 @@ use Rattle.std.specs.Option.{option_map}
 use Rattle.std.proofs.lemmas.Bool.{false≢true, and_from, and_parts, eq-eqb, eqb-true, or_cases, or_left, or_right}
 use Rattle.lists.specs.Lists.{some, last_where, or_else, placed}
 use Rattle.lists.proofs.Some.{some_placed}
-use Rattle.orders.specs.Least.{StandsIn}
+use Rattle.orders.specs.Least.{Stands}
 use Rattle.history.specs.declared.Entry.{Entry}
 use Rattle.history.specs.Conflicts.{writes, touches}
 use Rattle.history.specs.Entries.{committed}
@@ -16,12 +16,12 @@ use Rattle.equivalence.proofs.Serial.{Under, under_apart}
 use Rattle.equivalence.proofs.Cuts.{Cut, before_stands, stands_before, after_stands, stands_after}
 
 module _ {X : Type 0} where
-  some_stands : (test : X → Bool) (xs : List X) → some test xs ≡ true → (x : X) × StandsIn x xs × (test x ≡ true)
+  some_stands : (test : X → Bool) (xs : List X) → some test xs ≡ true → (x : X) × Stands x xs × (test x ≡ true)
   some_stands test [] h = absurd (false≢true h)
   some_stands test (y ∷ ys) h =
       elim (or_cases (test y) (some test ys) h) [ inl t ↦ (y, inl refl, t) | inr t ↦ let r = some_stands test ys t in (r.0, inr r.1, r.2) ]
 
-  stands_some : (test : X → Bool) (xs : List X) (x : X) → StandsIn x xs → test x ≡ true → some test xs ≡ true
+  stands_some : (test : X → Bool) (xs : List X) (x : X) → Stands x xs → test x ≡ true → some test xs ≡ true
   stands_some test [] x m t = absurd m
   stands_some test (y ∷ ys) x (inl e) t = or_left (test y) (some test ys) (ap test e ∙ t)
   stands_some test (y ∷ ys) x (inr m) t = or_right (test y) (some test ys) (stands_some test ys x m t)
@@ -50,8 +50,8 @@ pub record Tells {K : Type 0} (passes : ℕ → Bool) (P : ℕ × Entry K → Ty
 
 -- the writes of k among the entries ws are those with P
 module _ {K : Type 0} (alike : K → K → Bool) (c : ℕ → Bool) (k : K) (n : ℕ) (ws : List (Entry K)) (P : ℕ × Entry K → Type 0)
-    (of : (x : ℕ × Entry K) → StandsIn x (placed n ws) → sets alike c k x.1 ≡ true → P x)
-    (from : (x : ℕ × Entry K) → P x → StandsIn x (placed n ws) × (sets alike c k x.1 ≡ true)) where
+    (of : (x : ℕ × Entry K) → Stands x (placed n ws) → sets alike c k x.1 ≡ true → P x)
+    (from : (x : ℕ × Entry K) → P x → Stands x (placed n ws) × (sets alike c k x.1 ≡ true)) where
   writer_tells : Tells (writer alike c k ws) P
   writer_tells = record {
     has = λ m h.
@@ -69,7 +69,7 @@ module _ {K : Type 0} (alike : K → K → Bool) (c : ℕ → Bool) (k : K) (n :
   last_writer_found =
       let a = last_where (λ (x : ℕ × Entry K). sets alike c k x.1) (placed n ws) in (
         a,
-        last_turn Under Under (λ x. StandsIn x (placed n ws) × (sets alike c k x.1 ≡ true)) P (λ x h. of x h.0 h.1) from (λ x y p q u. u) a
+        last_turn Under Under (λ x. Stands x (placed n ws) × (sets alike c k x.1 ≡ true)) P (λ x h. of x h.0 h.1) from (λ x y p q u. u) a
             (last_is Under (λ x. sets alike c k x.1) (placed n ws) (placed_rise n ws)),
         ap (option_map (λ (w : Entry K). w.cue)) (sym (last_placed (sets alike c k) n ws)) ∙ cue_mapped a,
       )
@@ -80,14 +80,14 @@ module _ {K : Type 0} (alike : K → K → Bool) (c : ℕ → Bool) (k : K) (n :
 module _ {K : Type 0} (alike : K → K → Bool) (es : List (Entry K)) (k : K) where
   -- x is a write of k in the committed list
   abbrev pub Writes : ℕ × Entry K → Type 0
-  Writes x = StandsIn x (committed_list es) × (writes (alike k) x.1.act ≡ true)
+  Writes x = Stands x (committed_list es) × (writes (alike k) x.1.act ≡ true)
 
-  sets_writes : (x : ℕ × Entry K) → StandsIn x (placed 1 es) → sets alike (committed es) k x.1 ≡ true → Writes x
+  sets_writes : (x : ℕ × Entry K) → Stands x (placed 1 es) → sets alike (committed es) k x.1 ≡ true → Writes x
   sets_writes x m h =
       let b = and_parts (committed es x.1.cue) (writes (alike k) x.1.act) h in
       (kept_from (λ p. counts es p.1) (placed 1 es) x m (and_from (committed es x.1.cue) (touches (λ k. true) x.1.act) b.0 (writes_touch (alike k) x.1.act b.1)), b.1)
 
-  writes_sets : (x : ℕ × Entry K) → Writes x → StandsIn x (placed 1 es) × (sets alike (committed es) k x.1 ≡ true)
+  writes_sets : (x : ℕ × Entry K) → Writes x → Stands x (placed 1 es) × (sets alike (committed es) k x.1 ≡ true)
   writes_sets x w =
       let b = kept_of (λ p. counts es p.1) (placed 1 es) x w.0 in
       (b.0, and_from (committed es x.1.cue) (writes (alike k) x.1.act) (and_parts (committed es x.1.cue) (touches (λ k. true) x.1.act) b.1).0 w.1)
@@ -99,16 +99,16 @@ module _ {K : Type 0} (alike : K → K → Bool) (es : List (Entry K)) (k : K) w
     abbrev pub Later : ℕ × Entry K → Type 0
     Later x = Writes x × Under p x
 
-    earlier_of : (x : ℕ × Entry K) → StandsIn x (placed 1 before) → sets alike (committed es) k x.1 ≡ true → Earlier x
+    earlier_of : (x : ℕ × Entry K) → Stands x (placed 1 before) → sets alike (committed es) k x.1 ≡ true → Earlier x
     earlier_of x m h = let b = before_stands 1 es p before after cut x m in (sets_writes x b.0 h, b.1)
 
-    earlier_from : (x : ℕ × Entry K) → Earlier x → StandsIn x (placed 1 before) × (sets alike (committed es) k x.1 ≡ true)
+    earlier_from : (x : ℕ × Entry K) → Earlier x → Stands x (placed 1 before) × (sets alike (committed es) k x.1 ≡ true)
     earlier_from x w = let b = writes_sets x w.0 in (stands_before 1 es p before after cut x b.0 w.1, b.1)
 
-    later_of : (x : ℕ × Entry K) → StandsIn x (placed (suc p.0) after) → sets alike (committed es) k x.1 ≡ true → Later x
+    later_of : (x : ℕ × Entry K) → Stands x (placed (suc p.0) after) → sets alike (committed es) k x.1 ≡ true → Later x
     later_of x m h = let b = after_stands 1 es p before after cut x m in (sets_writes x b.0 h, b.1)
 
-    later_from : (x : ℕ × Entry K) → Later x → StandsIn x (placed (suc p.0) after) × (sets alike (committed es) k x.1 ≡ true)
+    later_from : (x : ℕ × Entry K) → Later x → Stands x (placed (suc p.0) after) × (sets alike (committed es) k x.1 ≡ true)
     later_from x w = let b = writes_sets x w.0 in (stands_after 1 es p before after cut x b.0 w.1, b.1)
 
     pub earlier_tells : Tells (writer alike (committed es) k before) Earlier

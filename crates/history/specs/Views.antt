@@ -3,7 +3,7 @@ use Rattle.std.specs.Prelude.{◌≡◌, ℕ, Bool, true, cond, not, ◌&&◌, L
 use Rattle.std.specs.List.{flat_map}
 use Rattle.lists.specs.Lists.{every, last_where, placed}
 use Rattle.orders.specs.Orders.{first_where, orders}
-use Rattle.orders.specs.Least.{StandsIn}
+use Rattle.orders.specs.Least.{Stands}
 use Rattle.history.specs.declared.Act.TheVariants.{Read}
 use Rattle.history.specs.declared.Entry.{Entry}
 use Rattle.history.specs.Conflicts.{reads, writes, touches}
@@ -62,5 +62,5 @@ module _ {K : Type 0} (alike : K → K → Bool) where
 
   -- the same for every read and every item, whether or not it occurs
   pub record SameView (ps ss : List (ℕ × Entry K)) : Type 0 where
-    pub sources : (p : ℕ × Entry K) (k : K) → StandsIn p ps → p.1.act ≡ Read k → source_at k p.0 ps ≡ source_at k p.0 ss
+    pub sources : (p : ℕ × Entry K) (k : K) → Stands p ps → p.1.act ≡ Read k → source_at k p.0 ps ≡ source_at k p.0 ss
     pub lasts : (k : K) → last_write k ps ≡ last_write k ss

@@ -4,4 +4,3 @@ pub mod Extending
 pub mod Leasts
 pub mod Precedence
 pub mod Same
-pub mod Standing
