@@ -1,3 +1,4 @@
 pub mod BreakLaws
 pub mod ClassLaws
 pub mod Tables
+pub mod Searches

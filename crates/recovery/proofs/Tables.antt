@@ -1,63 +1,109 @@
--- Tables of each cue's first entry. Assumes nothing.
-use Rattle.std.proofs.Common.{◌≡◌, ℕ, suc, ◌+◌, ◌-◌, ◌<◌, ◌≤◌, Bool, true, false, ◌&&◌, ltb, List, length, get_or, take, drop, set, sym, ap, ◌∙◌, inl, inr, arith}
-use Rattle.std.proofs.lemmas.List.{get_or-set_same, get_or-set_other, length-take, take-take}
-use Rattle.std.proofs.lemmas.Bool.{and_parts, and_left, cases_Bool, cases_eq, cond-true, cond-false, leb-true}
-use Rattle.lists.specs.Lists.{first_at}
-use Rattle.lists.proofs.Firsts.{first_at_before, some_take}
-use Rattle.history.specs.declared.Act.{Act}
+-- Tables of each cue's first endings. Assumes nothing.
+use Rattle.std.proofs.Common.{◌≡◌, ℕ, suc, zero, ◌+◌, ◌-◌, ◌<◌, ◌≤◌, Bool, true, false, ◌&&◌, ◌||◌, cond, eqb, ltb, List, [], ◌∷◌, ◌++◌, length, get_or, take, set, Some, None, Option, sym, refl, ap, ◌∙◌, inl, inr, arith}
+use Rattle.std.specs.List.{position_from}
+use Rattle.std.proofs.lemmas.List.{get_or-set_same, get_or-set_other, length-take-le, take_more}
+use Rattle.std.proofs.lemmas.Bool.{and_left, and_parts, both_ways, eq-eqb, cases_Bool, cases_eq, leb-true, lt-ltb, le-ltb}
+use Rattle.lists.specs.Lists.{some}
+use Rattle.history.specs.declared.Ending.{Ending}
 use Rattle.history.specs.declared.Entry.{Entry}
-use Rattle.history.specs.Entries.{is_cue, is_commit, is_abort, by, acted}
-use Rattle.history.proofs.By.{by_yes, by_no_cue}
-use Rattle.recovery.specs.declared.endings.Endings.{Endings}
-use Rattle.recovery.specs.Endings.{below, Firsts, Tells}
+use Rattle.history.specs.Entries.{is_cue, by, acted}
+use Rattle.history.proofs.By.{by_no_cue}
+use Rattle.recovery.specs.declared.endings.Ends.{Ends}
+use Rattle.recovery.specs.Endings.{ends_by, first_of, first_noted, is_below, open_ends, ended_before, Tells}
+
+noted_none : (o : Option ℕ) (i : ℕ) → first_noted o false i ≡ o
+noted_none None i = refl
+noted_none (Some at) i = refl
+
+noted_one : (t : Bool) (p i : ℕ) → p ≡ i → cond t (Some p) None ≡ first_noted None t i
+noted_one true p i e = ap (λ (j : ℕ). Some j) e
+noted_one false p i e = refl
+
+noted_front : (t u : Bool) (p i : ℕ) (o : Option ℕ) → cond t (Some p) (first_noted o u i) ≡ first_noted (cond t (Some p) o) u i
+noted_front true u p i o = refl
+noted_front false u p i o = refl
+
+module _ {X : Type 0} (test : X → Bool) where
+  -- the first of one element more
+  pub position_push : (p : ℕ) (xs : List X) (y : X) → position_from test p (xs ++ y ∷ []) ≡ first_noted (position_from test p xs) (test y) (p + length xs)
+  position_push p [] y = noted_one (test y) p (p + 0) (omega arith)
+  position_push p (x ∷ xs) y =
+      let place : p + 1 + length xs ≡ p + length (x ∷ xs) = omega arith in
+      ap (λ (o : Option ℕ). cond (test x) (Some p) o) (position_push (p + 1) xs y ∙ ap (λ (i : ℕ). first_noted (position_from test (p + 1) xs) (test y) i) place)
+      ∙ noted_front (test x) (test y) p (p + length (x ∷ xs)) (position_from test (p + 1) xs)
+
+  nothing_below : (p : ℕ) (xs : List X) (j : ℕ) → j ≤ p → is_below (position_from test p xs) j ≡ false
+  nothing_below p [] j h = refl
+  nothing_below p (x ∷ xs) j h =
+      elim (cases_Bool (test x)) [
+        | inl here ↦ ap (λ (t : Bool). is_below (cond t (Some p) (position_from test (p + 1) xs)) j) here ∙ le-ltb p j h
+        | inr later ↦ ap (λ (t : Bool). is_below (cond t (Some p) (position_from test (p + 1) xs)) j) later ∙ nothing_below (p + 1) xs j (omega arith)
+      ]
+
+  -- some of the first j pass exactly when the first that passes is among them
+  pub some_front : (p : ℕ) (xs : List X) (j : ℕ) → some test (take j xs) ≡ is_below (position_from test p xs) (p + j)
+  some_front p xs zero = sym (nothing_below p xs (p + 0) (omega arith))
+  some_front p [] (suc j) = refl
+  some_front p (x ∷ xs) (suc j) =
+      let place : p + 1 + j ≡ p + suc j = omega arith in
+      let rest = some_front (p + 1) xs j ∙ ap (λ (i : ℕ). is_below (position_from test (p + 1) xs) i) place in
+      elim (cases_Bool (test x)) [
+        | inl here ↦
+            ap (λ (t : Bool). t || some test (take j xs)) here
+            ∙ sym (ap (λ (t : Bool). is_below (cond t (Some p) (position_from test (p + 1) xs)) (p + suc j)) here ∙ lt-ltb p (p + suc j) (omega arith))
+        | inr later ↦
+            ap (λ (t : Bool). t || some test (take j xs)) later ∙ rest
+            ∙ sym (ap (λ (t : Bool). is_below (cond t (Some p) (position_from test (p + 1) xs)) (p + suc j)) later)
+      ]
+
+-- the table has the index of each cue's first ending of each kind
+abbrev pub Firsts : {K : Type 0} → List (Entry K) → List Ends → Type 0
+Firsts es cues = (how : Ending) (n : ℕ) → is_cue n ≡ true → first_of how (get_or cues (n - 1) open_ends) ≡ position_from (by n (ends_by how)) 0 es
 
 pub cue_bounds : (n : ℕ) → is_cue n ≡ true → (1 ≤ n) × (n ≤ 64)
 cue_bounds n e = let p = and_parts _ _ e in (leb-true 1 n p.0, leb-true n 64 p.1)
 
-module _ {K : Type 0} (test : Act K → Bool) (es : List (Entry K)) where
-  -- the table is right of the entries from i on
-  abbrev pub From : ℕ → List ℕ → Type 0
-  From i table = (n : ℕ) → is_cue n ≡ true → get_or table (n - 1) 0 ≡ i + first_at (by n test) (drop i es)
+-- one step of the loop that makes the table, at the entry with index i
+module _ {K : Type 0} (es : List (Entry K)) (i : ℕ) (cues : List Ends) (firsts : Firsts (take i es) cues) (e : Entry K) (within : i < length es) (is : e ≡ get_or es i e) where
+  more : (how : Ending) (n : ℕ) → position_from (by n (ends_by how)) 0 (take (i + 1) es) ≡ first_noted (position_from (by n (ends_by how)) 0 (take i es)) (by n (ends_by how) e) i
+  more how n =
+      let long = length-take-le i es (omega (arith, within)) in
+      let place : 0 + length (take i es) ≡ i = omega (arith, long) in
+      ap (position_from (by n (ends_by how)) 0) (take_more es i e within ∙ ap (λ (x : Entry K). take i es ++ x ∷ []) (sym is))
+      ∙ position_push (by n (ends_by how)) 0 (take i es) e
+      ∙ ap (λ (j : ℕ). first_noted (position_from (by n (ends_by how)) 0 (take i es)) (by n (ends_by how) e) j) place
 
-  module _ (i : ℕ) (table : List ℕ) (from : From i table) (e : Entry K) (some : 0 < i) (within : i ≤ length es) (is : e ≡ get_or es (i - 1) e) where
-    past : (n : ℕ) → is_cue n ≡ true → by n test e ≡ false → get_or table (n - 1) 0 ≡ (i - 1) + first_at (by n test) (drop (i - 1) es)
-    past n c no' =
-        let f = first_at (by n test) (drop i es) in
-        let step : first_at (by n test) (drop (i - 1) es) ≡ suc f = first_at_before (by n test) es i e some within is ∙ cond-false (by n test e) 0 (suc f) no' in
-        let was = from n c in
-        omega arith
+  -- an entry that does not end the cue n
+  kept : (how : Ending) (n : ℕ) → is_cue n ≡ true → by n (ends_by how) e ≡ false → first_of how (get_or cues (n - 1) open_ends) ≡ position_from (by n (ends_by how)) 0 (take (i + 1) es)
+  kept how n c not =
+      firsts how n c
+      ∙ sym (more how n ∙ ap (λ (t : Bool). first_noted (position_from (by n (ends_by how)) 0 (take i es)) t i) not ∙ noted_none _ i)
 
-    -- an entry of no cue, or that does not pass
-    pub from_skip : ((n : ℕ) → is_cue n ≡ true → by n test e ≡ false) → From (i - 1) table
-    from_skip none n c = past n c (none n c)
+  -- an entry of no cue
+  pub firsts_skip : is_cue e.cue ≡ false → Firsts (take (i + 1) es) cues
+  firsts_skip none how n c = kept how n c (by_no_cue n (ends_by how) e (λ same. both_ways (is_cue n) (ap is_cue (sym same) ∙ none) c))
 
-    -- an entry that passes
-    pub from_set : length table ≡ 64 → is_cue e.cue ≡ true → test e.act ≡ true → From (i - 1) (set table (e.cue - 1) (i - 1))
-    from_set long cue passes n c =
-        let low = cue_bounds n c in
-        let mine = cue_bounds e.cue cue in
-        elim (cases_eq e.cue n) [
-          | inl same ↦
-              let yes' : by n test e ≡ true = by_yes n test e same passes in
-              let step : first_at (by n test) (drop (i - 1) es) ≡ 0 = first_at_before (by n test) es i e some within is ∙ cond-true (by n test e) 0 _ yes' in
-              let at : get_or (set table (e.cue - 1) (i - 1)) (n - 1) 0 ≡ i - 1 =
-              ap (λ (m : ℕ). get_or (set table (e.cue - 1) (i - 1)) (m - 1) 0) (sym same) ∙ get_or-set_same table (e.cue - 1) (i - 1) 0 (omega arith) in
-              omega arith
-          | inr other ↦
-              get_or-set_other table (e.cue - 1) (n - 1) (i - 1) 0 (λ z. other (omega arith)) ∙ past n c (by_no_cue n test e other)
-        ]
-
-  -- what the table tells of a front of the entries
-  pub table_tells : (table : List ℕ) → Firsts test es table → (n i : ℕ) → i ≤ length es → acted test (take i es) n ≡ below table n i
-  table_tells table firsts n i h =
-      elim (cases_Bool (is_cue n)) [
-        | inl c ↦ ap (λ (t : Bool). is_cue n && t) (some_take (by n test) es i h ∙ ap (λ (m : ℕ). ltb m i) (sym (firsts n c)))
-        | inr c ↦ and_left (is_cue n) _ c ∙ sym (and_left (is_cue n) _ c)
+  -- an entry of a cue, noted
+  pub firsts_note : (ends : Ends) → length cues ≡ 64 → is_cue e.cue ≡ true → ((how : Ending) → first_of how ends ≡ first_noted (first_of how (get_or cues (e.cue - 1) open_ends)) (ends_by how e.act) i) → Firsts (take (i + 1) es) (set cues (e.cue - 1) ends)
+  firsts_note ends long cue noted how n c =
+      let low = cue_bounds n c in
+      let mine = cue_bounds e.cue cue in
+      elim (cases_eq e.cue n) [
+        | inl same ↦
+            let at : get_or (set cues (e.cue - 1) ends) (n - 1) open_ends ≡ ends =
+            ap (λ (m : ℕ). get_or (set cues (e.cue - 1) ends) (m - 1) open_ends) (sym same) ∙ get_or-set_same cues (e.cue - 1) ends open_ends (omega arith) in
+            let old = ap (λ (m : ℕ). first_of how (get_or cues (m - 1) open_ends)) same ∙ firsts how n c in
+            let act : ends_by how e.act ≡ by n (ends_by how) e = sym (ap (λ (t : Bool). t && ends_by how e.act) (eq-eqb e.cue n same)) in
+            ap (first_of how) at ∙ noted how ∙ (λ k. first_noted (old k) (act k) i) ∙ sym (more how n)
+        | inr not ↦
+            ap (first_of how) (get_or-set_other cues (e.cue - 1) (n - 1) ends open_ends (λ z. not (omega arith)))
+            ∙ kept how n c (by_no_cue n (ends_by how) e not)
       ]
 
--- what tables tell of all the entries they tell of their front
-pub tells_take : {K : Type 0} (es : List (Entry K)) (endings : Endings) → Tells es endings → (i : ℕ) → Tells (take i es) endings
-tells_take {K} es endings tells i = record {
-  committed = λ n j h. let k = length-take i es in ap (λ (xs : List (Entry K)). acted is_commit xs n) (take-take j i es (omega arith)) ∙ tells.committed n j (omega arith);
-  aborted = λ n j h. let k = length-take i es in ap (λ (xs : List (Entry K)). acted is_abort xs n) (take-take j i es (omega arith)) ∙ tells.aborted n j (omega arith);
-}
+-- what the table of all entries tells of a front of them
+pub table_tells : {K : Type 0} (es : List (Entry K)) (cues : List Ends) → Firsts es cues → Tells es (record { cues = cues })
+table_tells es cues firsts how n i h =
+    elim (cases_Bool (is_cue n)) [
+      | inl c ↦ ap (λ (t : Bool). is_cue n && t) (some_front (by n (ends_by how)) 0 es i ∙ sym (ap (λ (o : Option ℕ). is_below o (0 + i)) (firsts how n c)) ∙ ap (λ (j : ℕ). is_below (first_of how (get_or cues (n - 1) open_ends)) j) (omega arith))
+      | inr c ↦ and_left (is_cue n) _ c ∙ sym (and_left (is_cue n) _ c)
+    ]

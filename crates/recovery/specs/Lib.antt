@@ -2,4 +2,3 @@ pub mod Breaks
 pub mod Classes
 pub mod Endings
 pub mod Laws
-pub mod Rules

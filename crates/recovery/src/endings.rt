@@ -1,64 +1,71 @@
-// Which cues had committed or aborted before an entry, told from two tables in constant time.
+// Where each cue of a history first ends, in a table that is made in one pass.
 ghost use Rattle.std.specs.Prelude.{◌≡◌};
-ghost use Rattle.history.specs.Entries.{committed, aborted, ended};
-ghost use Rattle.history.specs.Sought.{admits};
-ghost use Rattle.recovery.specs.Endings.{below, Firsts, Tells};
+ghost use Rattle.recovery.specs.Endings.{Tells, first_of, first_noted, ends_by, ended_before};
+ghost use Rattle.history.specs.declared.Ending.{Ending};
 
-use history::{Entry, Sought, admitted, is_cue};
+use history::{Act, Ending, Entry, is_cue};
 
-// For each cue the index of its first commit and of its first abort, or the number of entries.
+// The index of a cue's first commit and that of its first abort.
 #[derive(Clone, Copy)]
-pub struct Endings {
-    commits: [usize; 64],
-    aborts: [usize; 64],
+struct Ends {
+    commit: Option<usize>,
+    abort: Option<usize>,
 }
 
-fn firsts<K>(entries: &[Entry<K>], sought: Sought) -> [usize; 64]
-    ensures { Firsts (admits sought) entries.now result }
-{
-    let mut table = [entries.len(); 64];
-    for i in (0..entries.len()).rev() {
-        let e = &entries[i];
-        if is_cue(e.cue) && admitted(sought, &e.act) {
-            table[e.cue as usize - 1] = i;
+impl Ends {
+    const OPEN: Ends = Ends {
+        commit: None,
+        abort: None,
+    };
+
+    // The index of the first ending of that kind.
+    fn first(&self, how: Ending) -> Option<usize>
+        ensures { result ≡ first_of how self.now }
+    {
+        match how {
+            Ending::Commit => self.commit,
+            Ending::Abort => self.abort,
         }
     }
-    table
-}
 
-// Whether the table has an index below `i` for the cue.
-fn is_below(table: &[usize; 64], cue: u32, i: usize) -> bool
-    ensures { result ≡ below table.now cue i }
-{
-    is_cue(cue) && table[cue as usize - 1] < i
-}
-
-pub fn endings_of<K>(entries: &[Entry<K>]) -> Endings
-    ensures { Tells entries.now result }
-{
-    Endings {
-        commits: firsts(entries, Sought::Commit),
-        aborts: firsts(entries, Sought::Abort),
+    // Notes the act with index `i`, if it is the first such ending.
+    fn note<K>(&mut self, act: &Act<K>, i: usize)
+        ensures { (how : Ending) → first_of how self.new ≡ first_noted (first_of how self.old) (ends_by how act.now) i }
+    {
+        match act {
+            Act::Commit => self.commit = self.commit.or(Some(i)),
+            Act::Abort => self.abort = self.abort.or(Some(i)),
+            _ => {}
+        }
     }
 }
 
-pub fn committed_in<K>(seen: &[Entry<K>], endings: &Endings, cue: u32) -> bool
-    requires { Tells seen.now endings.now }
-    ensures { result ≡ committed seen.now cue }
-{
-    is_below(&endings.commits, cue, seen.len())
+// The ends of each cue.
+#[derive(Drop)]
+pub struct Endings {
+    cues: [Ends; 64],
 }
 
-pub fn aborted_in<K>(seen: &[Entry<K>], endings: &Endings, cue: u32) -> bool
-    requires { Tells seen.now endings.now }
-    ensures { result ≡ aborted seen.now cue }
-{
-    is_below(&endings.aborts, cue, seen.len())
-}
+impl Endings {
+    pub fn of<K>(entries: &[Entry<K>]) -> Self
+        ensures { Tells entries.now result }
+    {
+        let mut cues = [Ends::OPEN; 64];
+        for (i, e) in entries.iter().enumerate() {
+            if is_cue(e.cue) {
+                cues[e.cue as usize - 1].note(&e.act, i);
+            }
+        }
+        Endings { cues }
+    }
 
-pub fn ended_in<K>(seen: &[Entry<K>], endings: &Endings, cue: u32) -> bool
-    requires { Tells seen.now endings.now }
-    ensures { result ≡ ended seen.now cue }
-{
-    committed_in(seen, endings, cue) || aborted_in(seen, endings, cue)
+    // Whether the cue ended so before the entry with index `i`.
+    pub fn ended_before(&self, how: Ending, cue: u32, i: usize) -> bool
+        ensures { result ≡ ended_before how self.now cue i }
+    {
+        is_cue(cue)
+            && self.cues[cue as usize - 1]
+                .first(how)
+                .is_some_and(|at| at < i)
+    }
 }

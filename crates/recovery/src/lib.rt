@@ -1,23 +1,19 @@
 // How recoverable a history is.
 #![tactic(auto)]
 
-ghost use Rattle.std.specs.Prelude.{◌≡◌, ◌+◌, ◌≤◌, not, ◌&&◌, length, take, drop, ◌==◌};
-ghost use Rattle.lists.specs.Lists.{some, first_from};
-ghost use Rattle.history.specs.Conflicts.{writes};
-ghost use Rattle.history.specs.Entries.{ended};
-ghost use Rattle.recovery.specs.Breaks.{breaks_recoverable, breaks_strict};
-ghost use Rattle.recovery.specs.Classes.{class_number, class_place, first_break, class_of};
-ghost use Rattle.recovery.specs.Endings.{Tells};
+ghost use Rattle.std.specs.Prelude.{◌≡◌, ◌+◌, ◌<◌, Bool, List, IfSome, take, drop};
+ghost use Rattle.lists.specs.Lists.{first_from};
+ghost use Rattle.history.specs.declared.Entry.{Entry};
+ghost use Rattle.recovery.specs.Classes.{class_number, class_place, class_of};
 ghost use Rattle.recovery.specs.Laws.{BreaksStay, FirstBreak, BreaksComeTogether, ClassNeverRises};
-ghost use Rattle.recovery.specs.Rules.{breaks_of};
 
 mod endings;
-mod sources;
+mod past;
 
-use endings::{Endings, ended_in, endings_of};
-use history::{Act, Entry, writes_item};
+use endings::Endings;
+use history::Entry;
 use items::Item;
-use sources::reads_uncommitted;
+use past::Past;
 
 // The class of a history, with the place of the first break that keeps it from the next class.
 #[derive(Clone, Copy, PartialEq, Eq, Debug)]
@@ -48,90 +44,29 @@ impl Class {
         ensures { result ≡ class_place self }
     {
         match self {
-            Class::NotRecoverable(place) => place,
-            Class::Recoverable(place) => place,
-            Class::Cascadeless(place) => place,
+            Class::NotRecoverable(place) | Class::Recoverable(place) | Class::Cascadeless(place) =>
+                place,
             Class::Strict => 0,
         }
     }
 }
 
-// The rules that a history can break.
-#[derive(Clone, Copy)]
-enum Rule {
-    Strict,
-    Cascadeless,
-    Recoverable,
-}
-
-// Whether another cue than `cue` wrote the item and has not ended.
-fn other_holds<K: Item>(seen: &[Entry<K>], endings: &Endings, cue: u32, item: K) -> bool
-    requires { Tells seen.now endings.now }
-    ensures { result ≡ some (λ w. writes (K.Item.alike item) w.act && (not (w.cue == cue) && not (ended seen.now w.cue))) seen.now }
-{
-    for w in seen {
-        if w.cue != cue && !ended_in(seen, endings, w.cue) && writes_item(&w.act, item) {
-            return true;
-        }
-    }
-    false
-}
-
-fn breaks_strict<K: Item>(seen: &[Entry<K>], endings: &Endings, e: &Entry<K>) -> bool
-    requires { Tells seen.now endings.now }
-    ensures { result ≡ breaks_strict K.Item.alike seen.now e.now }
-{
-    match &e.act {
-        Act::Read(item) => other_holds(seen, endings, e.cue, *item),
-        Act::Write(item) => other_holds(seen, endings, e.cue, *item),
-        _ => false,
-    }
-}
-
-fn breaks_recoverable<K: Item>(seen: &[Entry<K>], endings: &Endings, e: &Entry<K>) -> bool
-    requires { Tells seen.now endings.now }
-    ensures { result ≡ breaks_recoverable K.Item.alike seen.now e.now }
-{
-    let Act::Commit = &e.act else {
-        return false;
-    };
-    for (i, r) in seen.iter().enumerate() {
-        if r.cue == e.cue && reads_uncommitted(&seen[0..i], r, seen, endings) {
-            return true;
-        }
-    }
-    false
-}
-
-// Whether an entry breaks the rule after those seen.
-fn is_break<K: Item>(rule: Rule, seen: &[Entry<K>], endings: &Endings, e: &Entry<K>) -> bool
-    requires { Tells seen.now endings.now }
-    ensures { result ≡ breaks_of K.Item.alike rule seen.now e.now }
-{
-    match rule {
-        Rule::Strict => breaks_strict(seen, endings, e),
-        Rule::Cascadeless => reads_uncommitted(seen, e, seen, endings),
-        Rule::Recoverable => breaks_recoverable(seen, endings, e),
-    }
-}
-
-// The place of the first break of a rule, where none of the first `from` entries breaks it.
-fn first_break<K: Item>(
-    rule: Rule,
+// The place of the first entry that breaks a rule, from index `from` on.
+fn first_break<K, F: Fn(usize, &Entry<K>) -> bool>(
     entries: &[Entry<K>],
-    endings: &Endings,
     from: usize,
+    breaks: F,
 ) -> Option<usize>
-    requires tells { Tells entries.now endings.now }
-    requires none { first_from (breaks_of K.Item.alike rule) (from + 1) (take from entries.now) (drop from entries.now) ≡ first_break (breaks_of K.Item.alike rule) entries.now }
-    ensures { result ≡ first_break (breaks_of K.Item.alike rule) entries.now }
+    requires { F.IsAlwaysCallable breaks }
+    ensures place { IfSome result (λ p. 0 < p) }
+    ensures first { (rule : List (Entry K) → Entry K → Bool) → ((i : _) (e : _) (r : _) → F.post breaks i e r → r ≡ rule (take i entries.now) e.now) → result ≡ first_from rule (from + 1) (take from entries.now) (drop from entries.now) }
 {
-    for i in from..entries.len() {
-        if is_break(rule, &entries[0..i], endings, &entries[i]) {
-            return Some(i + 1);
-        }
-    }
-    None
+    entries
+        .iter()
+        .enumerate()
+        .skip(from)
+        .find(|(i, e)| breaks(*i, e))
+        .map(|(i, _)| i + 1)
 }
 
 // The class of a history. A break of cascadelessness is one of strictness too, and a break of recoverability follows one
@@ -139,25 +74,35 @@ fn first_break<K: Item>(
 pub fn class_of<K: Item>(entries: &[Entry<K>]) -> Class
     ensures { result ≡ class_of K.Item.alike entries.now }
 {
-    let endings = endings_of(entries);
-    let Some(strict) = first_break(Rule::Strict, entries, &endings, 0) else {
+    let endings = Endings::of(entries);
+    let history = Past {
+        entries,
+        endings: &endings,
+    };
+    let Some(strict) = first_break(entries, 0, |i, e| history.before(i).breaks_strict(e)) else {
         return Class::Strict;
     };
-    let Some(cascadeless) = first_break(Rule::Cascadeless, entries, &endings, strict - 1) else {
+    let Some(cascadeless) = first_break(
+        entries,
+        strict - 1,
+        |i, e| history.before(i).breaks_cascadeless(e),
+    ) else {
         return Class::Cascadeless(strict);
     };
-    match first_break(Rule::Recoverable, entries, &endings, cascadeless - 1) {
+    match first_break(
+        entries,
+        cascadeless - 1,
+        |i, e| history.before(i).breaks_recoverable(e),
+    ) {
         Some(place) => Class::NotRecoverable(place),
         None => Class::Recoverable(cascadeless),
     }
 }
 
 // The laws that breaks and classes keep, whatever is entered.
-pub fn laws_hold<K>() -> u8
+pub fn laws_hold<K>()
     ensures stay { BreaksStay K }
     ensures first { FirstBreak K }
     ensures together { BreaksComeTogether K }
     ensures falls { ClassNeverRises K }
-{
-    0
-}
+{}

@@ -1,29 +1,22 @@
-use Rattle.std.proofs.Common.{◌≡◌, ℕ, ◌-◌, true, false, take, sym, ap, ◌∙◌, arith}
-use Rattle.lists.proofs.FrontSteps.{first_yes, first_no, first_end}
-use Rattle.recovery.specs.Rules.{breaks_of}
-use Rattle.recovery.proofs.Tables.{tells_take}
+use Rattle.std.proofs.Common.{rules, tests, of_calls, ◌≡◌, ℕ, ◌+◌, Bool, List, Some, None, Option, take, drop, sym, ap, ◌∙◌}
+use Rattle.std.specs.List.{enumerate_from, find}
+use Rattle.std.specs.Option.{option_map}
+use Rattle.std.proofs.lemmas.Iterator.{YieldsList-from_slice}
+use Rattle.std.proofs.lemmas.Iterator.Adapters.{YieldsList-from_skip}
+use Rattle.std.proofs.lemmas.Iterator.Consumers.{YieldsList-from_enumerate}
+use Rattle.std.proofs.lemmas.Iterator.Search.{find_from_yields_List}
+use Rattle.history.specs.declared.Entry.{Entry}
+use Rattle.recovery.proofs.Searches.{at_front, first_from_skip}
 use Rattle.recovery.proofs.first_break.Goals as goal
 
 pub returns : goal.returns
-returns g c = sym (first_end (breaks_of g.K.Item.alike c.args.rule) c.args.entries.now c.loop-i.i c.loop-i-test.false) ∙ c.loop-i.invariant
-
-pub is_break-requires : goal.is_break-requires
-is_break-requires g c = tells_take c.args.entries.now c.args.endings.now c.requires.tells (c.loop-i.i - 0)
-
-pub returns-then-is_break : goal.returns-then-is_break
-returns-then-is_break g c =
-    let es = c.args.entries.now in
-    let rule = breaks_of g.K.Item.alike c.args.rule in
-    let front : c.loop-i.i - 0 ≡ c.loop-i.i = omega arith in
-    let passes : rule (take c.loop-i.i es) c.index-entries-i.result ≡ true =
-    ap (λ (n : ℕ). rule (take n es) c.index-entries-i.result) (sym front) ∙ sym c.if-is_break.ensures in
-    sym (first_yes rule es c.loop-i.i c.index-entries-i.result c.loop-i-test.true c.index-entries-i.is passes) ∙ c.loop-i.invariant
-
-pub loop-i-preserved : goal.loop-i-preserved
-loop-i-preserved g c =
-    let es = c.args.entries.now in
-    let rule = breaks_of g.K.Item.alike c.args.rule in
-    let front : c.loop-i.i - 0 ≡ c.loop-i.i = omega arith in
-    let fails : rule (take c.loop-i.i es) c.index-entries-i.result ≡ false =
-    ap (λ (n : ℕ). rule (take n es) c.index-entries-i.result) (sym front) ∙ sym c.if-is_break.ensures in
-    first_no rule es c.loop-i.i c.index-entries-i.result c.loop-i-test.true c.index-entries-i.is fails ∙ c.loop-i.invariant
+returns g c = record {
+  place = search rules;
+  first = λ rule computes.
+      let es = c.args.entries.now in
+      let n = c.args.from in
+      let found : option_map (λ x. (x.0, x.1.now)) c.find.result ≡ find (at_front rule es) (drop n (enumerate_from 0 es)) =
+      find_from_yields_List (at_front rule es) _ _ c.find.result c.find.ensures.ran (YieldsList-from_skip n (YieldsList-from_enumerate (YieldsList-from_slice es (cc)) (cc)) (cc)) (λ x b q k. (search (rules, tests), computes x.0 x.1 b (search (of_calls, tests)))) in
+      let mapped : c.map.result ≡ option_map (λ q. q.0 + 1) c.find.result = search rules in
+      mapped ∙ search rules ∙ sym (first_from_skip rule n es);
+}

@@ -1,0 +1,37 @@
+use Rattle.std.proofs.Common.{◌≡◌, ℕ, ◌+◌, ◌-◌, true, None, [], ◌∷◌, ◌++◌, length, take, set, sym, ap, refl, subst, ◌∙◌, arith}
+use Rattle.std.proofs.lemmas.List.{get_or-replicate, length-set, length-take-le, take_more, take_all}
+use Rattle.history.specs.declared.Ending.TheVariants.{Commit, Abort}
+use Rattle.history.specs.Entries.{is_cue}
+use Rattle.recovery.specs.Endings.{first_of, first_noted, ends_by, open_ends}
+use Rattle.recovery.proofs.Tables.{Firsts, cue_bounds, firsts_skip, firsts_note, table_tells}
+use Rattle.recovery.proofs.endings.Endings.of.Goals as goal
+use Rattle.recovery.proofs.endings.Endings.of.Goals.{then-is_cue, else-is_cue}
+
+open_none : (how : Rattle.history.specs.declared.Ending.TheVariants.the_data) → first_of how open_ends ≡ None
+open_none Commit = refl
+open_none Abort = refl
+
+pub loop-i-init : goal.loop-i-init
+loop-i-init g c = (refl, λ how n cue. let b = cue_bounds n cue in ap (first_of how) (get_or-replicate 64 (n - 1) open_ends open_ends (omega arith)) ∙ open_none how)
+
+pub loop-i-preserved : goal.loop-i-preserved
+loop-i-preserved g c =
+    let es = c.args.entries.now in
+    let i = c.loop-i.i in
+    let e = c.index-entries-i.result in
+    let was = c.loop-i.invariant in
+    elim c.if-is_cue.branch [
+      | then-is_cue w ↦
+          let cues = set c.loop-i.cues (e.cue - 1) w.note.new.self in
+          let right = firsts_note es i c.loop-i.cues was.1 e c.loop-i-test.true c.index-entries-i.is w.note.new.self was.0 (sym w.if-is_cue.ensures) w.note.ensures in
+          (ap length w.cues-is ∙ length-set c.loop-i.cues (e.cue - 1) w.note.new.self ∙ was.0, subst (Firsts (take (i + 1) es)) (sym w.cues-is) right)
+      | else-is_cue w ↦
+          let right = firsts_skip es i c.loop-i.cues was.1 e c.loop-i-test.true c.index-entries-i.is (sym w.if-is_cue.ensures) in
+          (ap length w.cues-is ∙ was.0, subst (Firsts (take (i + 1) es)) (sym w.cues-is) right)
+    ]
+
+pub returns : goal.returns
+returns g c =
+    let es = c.args.entries.now in
+    let all = take_all c.loop-i.i es c.loop-i-test.false in
+    table_tells es c.loop-i.cues (subst (λ front. Firsts front c.loop-i.cues) all c.loop-i.invariant.1)
