@@ -1,7 +1,7 @@
 -- Laws of breaks. Assumes nothing.
 use Rattle.std.proofs.Common.{◌≡◌, ℕ, zero, suc, ◌+◌, ◌-◌, ◌<◌, ◌≤◌, Bool, true, false, not, ◌&&◌, eqb, List, [], ◌∷◌, ◌++◌, length, get_or, take, drop, Some, None, Option, sym, refl, ap, ◌∙◌, subst, inl, inr, arith}
 use Rattle.std.proofs.lemmas.List.{length-take, take-append-drop}
-use Rattle.std.proofs.lemmas.Bool.{false≢true, both_ways, and_parts, and_from, or_from, cases_Bool, not-true, not_from_false}
+use Rattle.std.proofs.lemmas.Bool.{false≢true, both_ways, and_parts, and_from, or_from, cases_Bool, not-true, not_from_false, false_from_ne_true}
 use Rattle.lists.specs.Lists.{some, somewhere, first_from, passes, placed}
 use Rattle.lists.proofs.FirstFrom.{first_found, first_none, first_nowhere, first_skip, first_none_after}
 use Rattle.lists.proofs.Last.{last_passes, last_within}
@@ -46,10 +46,6 @@ module _ {K : Type 0} where
 
 pub first_break_lem : (K : Type 0) → FirstBreak K
 first_break_lem K = record { found = found_is_break; least = none_before; without = no_break }
-
-false_from : (t : Bool) → (t ≡ true → ⊥) → t ≡ false
-false_from true h = absurd (h refl)
-false_from false h = refl
 
 module _ {K : Type 0} where
   reads_weaker : (f g : K → Bool) → ((k : K) → f k ≡ true → g k ≡ true) → (a : Act K) → reads f a ≡ true → reads g a ≡ true
@@ -163,18 +159,18 @@ module _ {K : Type 0} (alike : K → K → Bool) where
   pub cascadeless_from_strict : (es : List (Entry K)) (p : ℕ) → first_break (breaks_strict alike) es ≡ Some p → first_from (breaks_cascadeless alike) (p - 1 + 1) (take (p - 1) es) (drop (p - 1) es) ≡ first_break (breaks_cascadeless alike) es
   cascadeless_from_strict es p h =
       first_skip (breaks_cascadeless alike) 1 [] es (p - 1)
-      (λ j l. false_from (passes (breaks_cascadeless alike) [] es j) (λ t. both_ways (breaks (breaks_strict alike) es (suc j)) (none_before (breaks_strict alike) es p (suc j) h (omega arith)) (same_break es (suc j) t)))
+      (λ j l. false_from_ne_true (passes (breaks_cascadeless alike) [] es j) (λ t. both_ways (breaks (breaks_strict alike) es (suc j)) (none_before (breaks_strict alike) es p (suc j) h (omega arith)) (same_break es (suc j) t)))
 
   -- and one for breaks of recoverability at the first break of cascadelessness
   pub recoverable_from_cascadeless : (es : List (Entry K)) (p : ℕ) → first_break (breaks_cascadeless alike) es ≡ Some p → first_from (breaks_recoverable alike) (p - 1 + 1) (take (p - 1) es) (drop (p - 1) es) ≡ first_break (breaks_recoverable alike) es
   recoverable_from_cascadeless es p h =
       first_skip (breaks_recoverable alike) 1 [] es (p - 1)
-      (λ j l. false_from (passes (breaks_recoverable alike) [] es j) (λ t. let r = earlier_break es (suc j) t in both_ways (breaks (breaks_cascadeless alike) es r.0) (none_before (breaks_cascadeless alike) es p r.0 h (omega (arith, r.1))) r.2))
+      (λ j l. false_from_ne_true (passes (breaks_recoverable alike) [] es j) (λ t. let r = earlier_break es (suc j) t in both_ways (breaks (breaks_cascadeless alike) es r.0) (none_before (breaks_cascadeless alike) es p r.0 h (omega (arith, r.1))) r.2))
 
   pub strict_cascadeless : (es : List (Entry K)) → first_break (breaks_strict alike) es ≡ None → first_break (breaks_cascadeless alike) es ≡ None
   strict_cascadeless es h =
       first_nowhere (breaks_cascadeless alike) 1 [] es
-      (λ i. false_from (passes (breaks_cascadeless alike) [] es i) (λ t. both_ways (breaks (breaks_strict alike) es (suc i)) (no_break (breaks_strict alike) es (suc i) h) (same_break es (suc i) t)))
+      (λ i. false_from_ne_true (passes (breaks_cascadeless alike) [] es i) (λ t. both_ways (breaks (breaks_strict alike) es (suc i)) (no_break (breaks_strict alike) es (suc i) h) (same_break es (suc i) t)))
 
 pub breaks_come_together : (K : Type 0) → BreaksComeTogether K
 breaks_come_together K = record { cascadeless = earlier_break; strict = same_break }

@@ -1,13 +1,15 @@
 -- Tables of each cue's first endings. Assumes nothing.
-use Rattle.std.proofs.Common.{◌≡◌, ℕ, suc, zero, ◌+◌, ◌-◌, ◌<◌, ◌≤◌, Bool, true, false, ◌&&◌, ◌||◌, cond, eqb, ltb, List, [], ◌∷◌, ◌++◌, length, get_or, take, set, Some, None, Option, sym, refl, ap, ◌∙◌, inl, inr, arith}
+use Rattle.std.proofs.Common.{◌≡◌, ℕ, suc, zero, ◌+◌, ◌-◌, ◌<◌, ◌≤◌, Bool, true, false, ◌&&◌, ◌||◌, cond, eqb, ltb, List, [], ◌∷◌, ◌++◌, length, get_or, take, set, replicate, Some, None, Option, sym, refl, ap, ◌∙◌, inl, inr, arith}
 use Rattle.std.specs.List.{position_from}
-use Rattle.std.proofs.lemmas.List.{get_or-set_same, get_or-set_other, length-take-le, take_more}
+use Rattle.std.proofs.lemmas.List.{get_or-replicate, get_or-set_same, get_or-set_other, length-take-le, take_more}
 use Rattle.std.proofs.lemmas.Bool.{and_left, and_parts, both_ways, eq-eqb, cases_Bool, cases_eq, leb-true, lt-ltb, le-ltb}
 use Rattle.lists.specs.Lists.{some}
 use Rattle.history.specs.declared.Ending.{Ending}
+use Rattle.history.specs.declared.Ending.TheVariants.{Commit, Abort}
 use Rattle.history.specs.declared.Entry.{Entry}
 use Rattle.history.specs.Entries.{is_cue, by, acted}
 use Rattle.history.proofs.By.{by_no_cue}
+use Rattle.history.proofs.Committed.{cue_low, cue_high}
 use Rattle.recovery.specs.declared.endings.Ends.{Ends}
 use Rattle.recovery.specs.Endings.{ends_by, first_of, first_noted, is_below, open_ends, ended_before, Tells}
 
@@ -60,8 +62,10 @@ module _ {X : Type 0} (test : X → Bool) where
 abbrev pub Firsts : {K : Type 0} → List (Entry K) → List Ends → Type 0
 Firsts es cues = (how : Ending) (n : ℕ) → is_cue n ≡ true → first_of how (get_or cues (n - 1) open_ends) ≡ position_from (by n (ends_by how)) 0 es
 
-pub cue_bounds : (n : ℕ) → is_cue n ≡ true → (1 ≤ n) × (n ≤ 64)
-cue_bounds n e = let p = and_parts _ _ e in (leb-true 1 n p.0, leb-true n 64 p.1)
+-- before the first entry no cue has ended
+pub none_yet : (K : Type 0) → Firsts {K = K} [] (replicate 64 open_ends)
+none_yet K Commit n c = let high = cue_high n c in let low = cue_low n c in ap (λ (ends : Ends). ends.commit) (get_or-replicate 64 (n - 1) open_ends open_ends (omega arith))
+none_yet K Abort n c = let high = cue_high n c in let low = cue_low n c in ap (λ (ends : Ends). ends.abort) (get_or-replicate 64 (n - 1) open_ends open_ends (omega arith))
 
 -- one step of the loop that makes the table, at the entry with index i
 module _ {K : Type 0} (es : List (Entry K)) (i : ℕ) (cues : List Ends) (firsts : Firsts (take i es) cues) (e : Entry K) (within : i < length es) (is : e ≡ get_or es i e) where
@@ -86,8 +90,9 @@ module _ {K : Type 0} (es : List (Entry K)) (i : ℕ) (cues : List Ends) (firsts
   -- an entry of a cue, noted
   pub firsts_note : (ends : Ends) → length cues ≡ 64 → is_cue e.cue ≡ true → ((how : Ending) → first_of how ends ≡ first_noted (first_of how (get_or cues (e.cue - 1) open_ends)) (ends_by how e.act) i) → Firsts (take (i + 1) es) (set cues (e.cue - 1) ends)
   firsts_note ends long cue noted how n c =
-      let low = cue_bounds n c in
-      let mine = cue_bounds e.cue cue in
+      let low = cue_low n c in
+      let mine = cue_low e.cue cue in
+      let most = cue_high e.cue cue in
       elim (cases_eq e.cue n) [
         | inl same ↦
             let at : get_or (set cues (e.cue - 1) ends) (n - 1) open_ends ≡ ends =

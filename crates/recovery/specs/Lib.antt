@@ -2,3 +2,4 @@ pub mod Breaks
 pub mod Classes
 pub mod Endings
 pub mod Laws
+pub mod Rules

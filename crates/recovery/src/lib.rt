@@ -5,6 +5,7 @@ ghost use Rattle.std.specs.Prelude.{◌≡◌, ◌+◌, ◌<◌, Bool, List, IfS
 ghost use Rattle.lists.specs.Lists.{first_from};
 ghost use Rattle.history.specs.declared.Entry.{Entry};
 ghost use Rattle.recovery.specs.Classes.{class_number, class_place, class_of};
+ghost use Rattle.recovery.specs.Rules.{Computes};
 ghost use Rattle.recovery.specs.Laws.{BreaksStay, FirstBreak, BreaksComeTogether, ClassNeverRises};
 
 mod endings;
@@ -59,7 +60,7 @@ fn first_break<K, F: Fn(usize, &Entry<K>) -> bool>(
 ) -> Option<usize>
     requires { F.IsAlwaysCallable breaks }
     ensures place { IfSome result (λ p. 0 < p) }
-    ensures first { (rule : List (Entry K) → Entry K → Bool) → ((i : _) (e : _) (r : _) → F.post breaks i e r → r ≡ rule (take i entries.now) e.now) → result ≡ first_from rule (from + 1) (take from entries.now) (drop from entries.now) }
+    ensures first { (rule : _) → Computes (F.post breaks) entries.now rule → result ≡ first_from rule (from + 1) (take from entries.now) (drop from entries.now) }
 {
     entries
         .iter()

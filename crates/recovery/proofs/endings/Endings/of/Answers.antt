@@ -3,16 +3,12 @@ use Rattle.std.proofs.lemmas.List.{get_or-replicate, length-set, length-take-le,
 use Rattle.history.specs.declared.Ending.TheVariants.{Commit, Abort}
 use Rattle.history.specs.Entries.{is_cue}
 use Rattle.recovery.specs.Endings.{first_of, first_noted, ends_by, open_ends}
-use Rattle.recovery.proofs.Tables.{Firsts, cue_bounds, firsts_skip, firsts_note, table_tells}
+use Rattle.recovery.proofs.Tables.{Firsts, none_yet, firsts_skip, firsts_note, table_tells}
 use Rattle.recovery.proofs.endings.Endings.of.Goals as goal
 use Rattle.recovery.proofs.endings.Endings.of.Goals.{then-is_cue, else-is_cue}
 
-open_none : (how : Rattle.history.specs.declared.Ending.TheVariants.the_data) → first_of how open_ends ≡ None
-open_none Commit = refl
-open_none Abort = refl
-
 pub loop-i-init : goal.loop-i-init
-loop-i-init g c = (refl, λ how n cue. let b = cue_bounds n cue in ap (first_of how) (get_or-replicate 64 (n - 1) open_ends open_ends (omega arith)) ∙ open_none how)
+loop-i-init g c = (refl, none_yet g.row.K.Denot)
 
 pub loop-i-preserved : goal.loop-i-preserved
 loop-i-preserved g c =
