@@ -5,7 +5,7 @@ use Rattle.lists.proofs.FirstFrom.{first_more}
 use Rattle.history.specs.declared.Entry.{Entry}
 use Rattle.recovery.specs.declared.Class.TheVariants.{NotRecoverable, Recoverable, Cascadeless, Strict}
 use Rattle.recovery.specs.Breaks.{breaks_recoverable, breaks_cascadeless, breaks_strict}
-use Rattle.recovery.specs.Classes.{class_number, ranked, first_break, class_of}
+use Rattle.recovery.specs.Classes.{class_number, ranked, class_of}
 use Rattle.recovery.specs.Laws.{ClassNeverRises}
 use Rattle.recovery.proofs.BreakLaws.{strict_cascadeless, cascadeless_recoverable, cascadeless_from_strict, recoverable_from_cascadeless}
 

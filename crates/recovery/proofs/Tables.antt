@@ -1,17 +1,17 @@
 -- Tables of each cue's first endings. Assumes nothing.
-use Rattle.std.proofs.Common.{◌≡◌, ℕ, suc, zero, ◌+◌, ◌-◌, ◌<◌, ◌≤◌, Bool, true, false, ◌&&◌, ◌||◌, cond, eqb, ltb, List, [], ◌∷◌, ◌++◌, length, get_or, take, set, replicate, Some, None, Option, sym, refl, ap, ◌∙◌, inl, inr, arith}
+use Rattle.std.proofs.Common.{◌≡◌, ℕ, suc, zero, ◌+◌, ◌-◌, ◌<◌, ◌≤◌, Bool, true, false, ◌&&◌, ◌||◌, cond, List, [], ◌∷◌, ◌++◌, length, get_or, take, set, replicate, Some, None, Option, sym, refl, ap, ◌∙◌, inl, inr, arith}
 use Rattle.std.specs.List.{position_from}
 use Rattle.std.proofs.lemmas.List.{get_or-replicate, get_or-set_same, get_or-set_other, length-take-le, take_more}
-use Rattle.std.proofs.lemmas.Bool.{and_left, and_parts, both_ways, eq-eqb, cases_Bool, cases_eq, leb-true, lt-ltb, le-ltb}
+use Rattle.std.proofs.lemmas.Bool.{and_left, both_ways, eq-eqb, cases_Bool, cases_eq, lt-ltb, le-ltb}
 use Rattle.lists.specs.Lists.{some}
 use Rattle.history.specs.declared.Ending.{Ending}
 use Rattle.history.specs.declared.Ending.TheVariants.{Commit, Abort}
 use Rattle.history.specs.declared.Entry.{Entry}
-use Rattle.history.specs.Entries.{is_cue, by, acted}
+use Rattle.history.specs.Entries.{is_cue, by}
 use Rattle.history.proofs.By.{by_no_cue}
 use Rattle.history.proofs.Committed.{cue_low, cue_high}
 use Rattle.recovery.specs.declared.endings.Ends.{Ends}
-use Rattle.recovery.specs.Endings.{ends_by, first_of, first_noted, is_below, open_ends, ended_before, Tells}
+use Rattle.recovery.specs.Endings.{ends_by, first_of, first_noted, is_below, open_ends, Tells}
 
 noted_none : (o : Option ℕ) (i : ℕ) → first_noted o false i ≡ o
 noted_none None i = refl

@@ -80,9 +80,7 @@ impl<'a, K: Item> Past<'a, K> {
     fn other_holds(&self, cue: u32, item: K) -> bool
         ensures { result ≡ some (λ w. writes (K.Item.alike item) w.act && (not (w.cue == cue) && not (ended self.now.entries.now w.cue))) self.now.entries.now }
     {
-        self.entries
-            .iter()
-            .any(|w| w.cue != cue && !self.ended(w.cue) && writes_item(&w.act, item))
+        self.entries.iter().any(|w| w.cue != cue && !self.ended(w.cue) && writes_item(&w.act, item))
     }
 
     // Whether a read by the cue was from another that has not committed.

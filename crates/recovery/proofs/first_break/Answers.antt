@@ -1,11 +1,10 @@
-use Rattle.std.proofs.Common.{rules, tests, of_calls, ◌≡◌, ℕ, ◌+◌, Bool, List, Some, None, Option, take, drop, sym, ap, ◌∙◌}
+use Rattle.std.proofs.Common.{rules, tests, of_calls, ◌≡◌, ◌+◌, drop, sym, ◌∙◌}
 use Rattle.std.specs.List.{enumerate_from, find}
 use Rattle.std.specs.Option.{option_map}
 use Rattle.std.proofs.lemmas.Iterator.{YieldsList-from_slice}
 use Rattle.std.proofs.lemmas.Iterator.Adapters.{YieldsList-from_skip}
 use Rattle.std.proofs.lemmas.Iterator.Consumers.{YieldsList-from_enumerate}
 use Rattle.std.proofs.lemmas.Iterator.Search.{find_from_yields_List}
-use Rattle.history.specs.declared.Entry.{Entry}
 use Rattle.recovery.proofs.Searches.{at_front, first_from_skip}
 use Rattle.recovery.proofs.first_break.Goals as goal
 

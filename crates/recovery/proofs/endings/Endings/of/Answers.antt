@@ -1,8 +1,5 @@
-use Rattle.std.proofs.Common.{◌≡◌, ℕ, ◌+◌, ◌-◌, true, None, [], ◌∷◌, ◌++◌, length, take, set, sym, ap, refl, subst, ◌∙◌, arith}
-use Rattle.std.proofs.lemmas.List.{get_or-replicate, length-set, length-take-le, take_more, take_all}
-use Rattle.history.specs.declared.Ending.TheVariants.{Commit, Abort}
-use Rattle.history.specs.Entries.{is_cue}
-use Rattle.recovery.specs.Endings.{first_of, first_noted, ends_by, open_ends}
+use Rattle.std.proofs.Common.{◌+◌, ◌-◌, length, take, set, sym, ap, refl, subst, ◌∙◌}
+use Rattle.std.proofs.lemmas.List.{length-set, take_all}
 use Rattle.recovery.proofs.Tables.{Firsts, none_yet, firsts_skip, firsts_note, table_tells}
 use Rattle.recovery.proofs.endings.Endings.of.Goals as goal
 use Rattle.recovery.proofs.endings.Endings.of.Goals.{then-is_cue, else-is_cue}

@@ -1,6 +1,4 @@
-use Rattle.std.proofs.Common.{rules, tests, ◌≡◌, ℕ, Bool, not, ◌&&◌, eqb, List, [], sym, ◌∙◌}
-use Rattle.std.proofs.iter.runs.Made.{chains}
-use Rattle.std.specs.List.{enumerate_from}
+use Rattle.std.proofs.Common.{rules, tests, Bool, not, ◌&&◌, eqb, List, [], sym, ◌∙◌}
 use Rattle.std.proofs.lemmas.Iterator.{YieldsList-from_slice}
 use Rattle.std.proofs.lemmas.Iterator.Consumers.{YieldsList-from_enumerate}
 use Rattle.std.proofs.lemmas.Iterator.Search.{any_from_yields_List}
