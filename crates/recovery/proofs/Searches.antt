@@ -65,7 +65,7 @@ module _ {X : Type 0} where
     somewhere_any seen (x ∷ xs) = λ k.
         sym (here seen x xs) k || (somewhere_any (seen ++ x ∷ []) xs ∙ (λ m. some (at_front (whole seen x xs m)) (enumerate_from (long seen x xs m) xs))) k
 
-    pub first_from_find : (seen xs : List X) → first_from test (length seen + 1) seen xs ≡ option_map (λ q. q.0 + 1) (find (at_front (seen ++ xs)) (enumerate_from (length seen) xs))
+    first_from_find : (seen xs : List X) → first_from test (length seen + 1) seen xs ≡ option_map (λ q. q.0 + 1) (find (at_front (seen ++ xs)) (enumerate_from (length seen) xs))
     first_from_find seen [] = refl
     first_from_find seen (x ∷ xs) =
         let place : ℕ × X → ℕ = λ q. q.0 + 1 in

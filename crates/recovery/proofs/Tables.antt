@@ -27,7 +27,7 @@ noted_front false u p i o = refl
 
 module _ {X : Type 0} (test : X → Bool) where
   -- the first of one element more
-  pub position_push : (p : ℕ) (xs : List X) (y : X) → position_from test p (xs ++ y ∷ []) ≡ first_noted (position_from test p xs) (test y) (p + length xs)
+  position_push : (p : ℕ) (xs : List X) (y : X) → position_from test p (xs ++ y ∷ []) ≡ first_noted (position_from test p xs) (test y) (p + length xs)
   position_push p [] y = noted_one (test y) p (p + 0) (omega arith)
   position_push p (x ∷ xs) y =
       let place : p + 1 + length xs ≡ p + length (x ∷ xs) = omega arith in
@@ -43,7 +43,7 @@ module _ {X : Type 0} (test : X → Bool) where
       ]
 
   -- some of the first j pass exactly when the first that passes is among them
-  pub some_front : (p : ℕ) (xs : List X) (j : ℕ) → some test (take j xs) ≡ is_below (position_from test p xs) (p + j)
+  some_front : (p : ℕ) (xs : List X) (j : ℕ) → some test (take j xs) ≡ is_below (position_from test p xs) (p + j)
   some_front p xs zero = sym (nothing_below p xs (p + 0) (omega arith))
   some_front p [] (suc j) = refl
   some_front p (x ∷ xs) (suc j) =
