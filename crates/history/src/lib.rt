@@ -121,7 +121,11 @@ pub fn is_marked(cues: &[bool; 64], n: u32) -> bool
 pub fn committed_cues<K>(entries: &[Entry<K>]) -> [bool; 64]
     ensures { (n : ℕ) → marked result n ≡ committed entries.now n }
 {
-    std::array::from_fn(|i| is_committed(entries, i as u32 + 1))
+    let mut cues = [false; 64];
+    for n in 1..65u32 {
+        cues[n as usize - 1] = is_committed(entries, n);
+    }
+    cues
 }
 
 // Whether the act writes an item that is the same as `item`.
