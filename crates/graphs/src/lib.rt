@@ -213,8 +213,7 @@ pub fn search<G: Graph>(graph: &G, list: &mut [u32], strip: &mut [u8]) -> Result
 }
 
 // That an order follows every edge exactly when each edge between its numbers runs forward.
-pub fn follows_stands() -> u8
+pub fn follows_stands()
     ensures { FollowsForward }
 {
-    0
 }

@@ -77,8 +77,7 @@ pub fn order_of<K: Item>(
 }
 
 // That a cycle lasts: once there is one, no order is found again.
-pub fn cycle_lasts<K>() -> u8
+pub fn cycle_lasts<K>()
     ensures { CycleLasts K }
 {
-    0
 }
