@@ -1,6 +1,6 @@
 -- What the parts of a search come to. Assumes nothing.
-use Rattle.std.proofs.Common.{◌≡◌, ℕ, ◌≤◌, Bool, true, false, cond, ltb, List, [], length, take, drop, Some, None, sym, ap, ◌∙◌, append-nil, arith}
-use Rattle.std.proofs.lemmas.Bool.{and_parts, cond-false, le-ltb}
+use Rattle.std.proofs.Common.{◌≡◌, ℕ, ◌<◌, ◌≤◌, Bool, true, false, cond, ltb, List, [], length, take, drop, Some, None, sym, ap, ◌∙◌, append-nil, arith}
+use Rattle.std.proofs.lemmas.Bool.{and_parts, cond-true, cond-false, le-ltb, lt-ltb}
 use Rattle.refusals.specs.declared.Refusal.TheVariants.{ListShort, StripShort}
 use Rattle.graphs.specs.Answer.{Ordered, Cycled, search_refusal}
 use Rattle.orders.specs.Orders.{among, first_where, orders}
@@ -31,6 +31,12 @@ module _ (has : ℕ → Bool) (edge : ℕ → ℕ → Bool) (list list' : List �
         cycle = rw cells (ring_cycle has edge s' base size over);
         rest = rest;
       }
+
+-- a strip that is long enough, with a list that is short
+pub list_refused : (has : ℕ → Bool) (cells bytes : ℕ) → 64 ≤ bytes → cells < length (among has) → search_refusal has cells bytes ≡ Some ListShort
+list_refused has cells bytes strip list =
+    cond-false (ltb bytes 64) (Some StripShort) (cond (ltb cells (length (among has))) (Some ListShort) None) (le-ltb bytes 64 strip)
+    ∙ cond-true (ltb cells (length (among has))) (Some ListShort) None (lt-ltb cells (length (among has)) list)
 
 -- a strip and a list that are long enough
 pub not_refused : (has : ℕ → Bool) (cells bytes : ℕ) → 64 ≤ bytes → length (among has) ≤ cells → search_refusal has cells bytes ≡ None

@@ -1,11 +1,13 @@
 // The first order in dictionary order of a graph's numbers that follows every edge, or a cycle.
 #![tactic(auto)]
 
-ghost use Rattle.std.specs.Prelude.{◌≡◌, ℕ, ◌+◌, ◌-◌, ◌<◌, ◌≤◌, Bool, true, false, List, length, take, drop, MatchOption};
+ghost use Rattle.std.specs.Prelude.{◌≡◌, ℕ, ◌+◌, ◌-◌, ◌<◌, ◌≤◌, Bool, true, false, List, length, take, drop, MatchOption, find, replicate, slice_set};
+ghost use Rattle.std.specs.List.{range_with_len};
 ghost use Rattle.graphs.specs.Edges.{FollowsForward};
 ghost use Rattle.graphs.specs.Answer.{Finds, search_refusal, refusal_in, strip_after, Lists};
 ghost use Rattle.orders.specs.Orders.{among};
 ghost use Rattle.graphs.specs.Rows.{wiped, waits, mark, Ready, Stuck, Picked, Marked, Placing, Walked};
+ghost use Rattle.graphs.specs.Kept.{Keeps};
 
 use refusals::Refusal;
 
@@ -32,166 +34,162 @@ pub enum Found {
     Cycle(usize),
 }
 
-fn wipe(strip: &mut [u8])
-    requires { 64 ≤ length strip.old }
-    ensures { strip.new ≡ wiped strip.old }
-{
-    for i in 0..64usize {
-        strip[i] = 0;
-    }
-}
-
-// The first 64 bytes of a strip, which are zero again once it is let go.
-pub struct Marks<'a> {
-    strip: &'a mut [u8],
-}
-
-impl Drop for Marks<'_> {
-    fn drop(self)
-        requires { 64 ≤ length self.strip.now }
-        ensures { self.exit.0.now ≡ wiped self.entry.strip.now }
-    {
-        wipe(self.strip);
-        let Marks { strip: _ } = self;
-    }
-}
-
 // How many numbers the graph has.
 fn count<G: Graph>(graph: &G) -> usize
     ensures { result ≡ length (among (G.numbers graph.now)) }
 {
-    let mut n = 0usize;
-    for m in 1..65u32 {
-        if graph.has(m) {
-            n += 1;
-        }
-    }
-    n
+    (1..65).filter(|m| graph.has(*m)).count()
 }
 
-// Whether the graph has `m` and it is not placed.
-fn waiting<G: Graph>(graph: &G, strip: &[u8], m: u32) -> bool
-    requires { (64 ≤ length strip.now) × ((1 ≤ m) × (m ≤ 64)) }
-    ensures { result ≡ waits (G.numbers graph.now) strip.now m }
-{
-    let mark = strip[m as usize - 1];
-    graph.has(m) && (mark == 0 || mark > 64)
-}
-
-// The smallest waiting number with an edge to `to`.
-fn before<G: Graph>(graph: &G, strip: &[u8], to: u32) -> Option<u32>
-    requires { 64 ≤ length strip.now }
-    ensures { MatchOption result (Ready (waits (G.numbers graph.now) strip.now) (G.edges graph.now) to) (λ u. (1 ≤ u) × (u ≤ 64) × (waits (G.numbers graph.now) strip.now u ≡ true) × (G.edges graph.now u to ≡ true)) }
-{
-    for m in 1..65u32 {
-        if waiting(graph, strip, m) && graph.edge(m, to) {
-            return Some(m);
-        }
-    }
-    None
-}
-
-// The smallest waiting number with no edge to it from a waiting one.
-fn pick<G: Graph>(graph: &G, strip: &[u8]) -> Option<u32>
-    requires { 64 ≤ length strip.now }
-    ensures { MatchOption result (Stuck (waits (G.numbers graph.now) strip.now) (G.edges graph.now)) (Picked (waits (G.numbers graph.now) strip.now) (G.edges graph.now)) }
-{
-    for m in 1..65u32 {
-        if waiting(graph, strip, m) && before(graph, strip, m).is_none() {
-            return Some(m);
-        }
-    }
-    None
-}
-
-// Marks each number that can be placed with its place, counted from 1.
-fn place<G: Graph>(graph: &G, strip: &mut [u8]) -> u8
-    requires { (64 ≤ length strip.old) × (strip.old ≡ wiped strip.old) }
-    ensures done { Placing (G.numbers graph.now) (G.edges graph.now) strip.new result }
-    ensures stuck { Stuck (waits (G.numbers graph.now) strip.new) (G.edges graph.now) }
-    ensures rest { drop 64 strip.new ≡ drop 64 strip.old }
-{
-    let mut placed = 0u8;
-    while let Some(m) = pick(graph, strip) {
-        placed += 1;
-        strip[m as usize - 1] = placed;
-    }
-    placed
-}
-
-// Where the row of a walk begins, and how much of it is a cycle.
+// A row of numbers by their marks: the `size` above `base`, in the order of their marks.
 #[derive(Clone, Copy)]
-struct Ring {
+struct Row {
     base: u8,
     size: u8,
 }
 
-// Walks back from `from` along waiting numbers until one comes again.
-fn walk<G: Graph>(graph: &G, strip: &mut [u8], from: u32) -> Ring
-    requires in_bounds { (64 ≤ length strip.old) × ((1 ≤ from) × (from ≤ 64)) }
-    requires from_value { waits (G.numbers graph.now) strip.old from ≡ true }
-    requires by_index { (m : ℕ) → 1 ≤ m → m ≤ 64 → mark strip.old m ≤ 64 }
-    requires stuck { Stuck (waits (G.numbers graph.now) strip.old) (G.edges graph.now) }
-    ensures ring { Walked (G.numbers graph.now) (G.edges graph.now) strip.new result.base result.size }
-    ensures rest { drop 64 strip.new ≡ drop 64 strip.old }
-{
-    let mut at = from;
-    let mut base = 128u8;
-    while strip[at as usize - 1] == 0 {
-        strip[at as usize - 1] = base;
-        base -= 1;
-        match before(graph, strip, at) {
-            Some(u) => at = u,
-            None => unreachable(),
-        }
-    }
-    Ring {
-        base,
-        size: strip[at as usize - 1] - base,
+// A search of a graph, with its marks over the first 64 bytes of a strip, which are zero again once it is let go.
+struct Marks<'a, G> {
+    graph: &'a G,
+    strip: &'a mut [u8; 64],
+}
+
+impl<G> Drop for Marks<'_, G> {
+    fn drop(self)
+        ensures { self.exit.1.0.now ≡ replicate 64 0 }
+    {
+        self.strip.fill(0);
+        let Marks { graph: _, strip: _ } = self;
     }
 }
 
-// Writes the numbers whose marks are the `size` above `base`, in the order of their marks.
-fn write(list: &mut [u32], strip: &[u8], base: u8, size: u8)
-    requires { (64 ≤ length strip.now) × ((size ≤ length list.old) × (base + size ≤ 128)) }
-    ensures row { (row : List ℕ) → length row ≡ size → Marked base row strip.now → take size list.new ≡ row }
-    ensures rest { drop size list.new ≡ drop size list.old }
-{
-    for m in 1..65u32 {
-        let mark = strip[m as usize - 1];
-        if mark > base && mark <= base + size {
-            list[(mark - base - 1) as usize] = m;
+impl<G: Graph> Marks<'_, G> {
+    // The mark of the number `m`.
+    fn mark(&self, m: u32) -> u8
+        requires { (1 ≤ m) × (m ≤ 64) }
+        ensures { result ≡ mark self.now.strip.now m }
+    {
+        let strip = &*self.strip;
+        strip[m as usize - 1]
+    }
+
+    // Gives the number `m` a mark.
+    fn put(&mut self, m: u32, mark: u8)
+        requires { (1 ≤ m) × (m ≤ 64) }
+        ensures same { Keeps self.old self.new }
+        ensures written { self.new.strip.now ≡ slice_set self.old.strip.now (m - 1) mark }
+        ensures long { length self.old.strip.now ≡ 64 }
+    {
+        let strip = &mut *self.strip;
+        strip[m as usize - 1] = mark;
+    }
+
+    // Whether the graph has `m` and it is not placed.
+    fn waits(&self, m: u32) -> bool
+        requires { (1 ≤ m) × (m ≤ 64) }
+        ensures { result ≡ waits (G.numbers self.now.graph.now) self.now.strip.now m }
+    {
+        let mark = self.mark(m);
+        self.graph.has(m) && (mark == 0 || mark > 64)
+    }
+
+    // The smallest waiting number.
+    fn left(&self) -> Option<u32>
+        ensures { let U = waits (G.numbers self.now.graph.now) self.now.strip.now in MatchOption result ((m : ℕ) → 1 ≤ m → m ≤ 64 → U m ≡ false) (λ m. (1 ≤ m) × (m ≤ 64) × (U m ≡ true)) }
+    {
+        (1..65).find(|m| self.waits(*m))
+    }
+
+    // The smallest waiting number with an edge to `to`.
+    fn before(&self, to: u32) -> Option<u32>
+        ensures { let U = waits (G.numbers self.now.graph.now) self.now.strip.now in let edge = G.edges self.now.graph.now in MatchOption result (Ready U edge to) (λ u. (1 ≤ u) × (u ≤ 64) × (U u ≡ true) × (edge u to ≡ true)) }
+    {
+        (1..65).find(|m| self.waits(*m) && self.graph.edge(*m, to))
+    }
+
+    // The smallest waiting number with no edge to it from a waiting one.
+    fn pick(&self) -> Option<u32>
+        ensures { let U = waits (G.numbers self.now.graph.now) self.now.strip.now in let edge = G.edges self.now.graph.now in MatchOption result (Stuck U edge) (Picked U edge) }
+    {
+        (1..65).find(|m| self.waits(*m) && self.before(*m).is_none())
+    }
+
+    // Marks each number that can be placed with its place, counted from 1.
+    fn place(&mut self) -> u8
+        requires { self.old.strip.now ≡ replicate 64 0 }
+        ensures same { Keeps self.old self.new }
+        ensures done { Placing (G.numbers self.old.graph.now) (G.edges self.old.graph.now) self.new.strip.now result }
+        ensures stuck { Stuck (waits (G.numbers self.old.graph.now) self.new.strip.now) (G.edges self.old.graph.now) }
+    {
+        let mut placed = 0u8;
+        while let Some(m) = self.pick() {
+            placed += 1;
+            self.put(m, placed);
+        }
+        placed
+    }
+
+    // Walks back from `from` along waiting numbers until one comes again, and gives the cycle.
+    fn walk(&mut self, from: u32) -> Row
+        requires in_bounds { (1 ≤ from) × (from ≤ 64) }
+        requires from_value { waits (G.numbers self.old.graph.now) self.old.strip.now from ≡ true }
+        requires by_index { (m : ℕ) → 1 ≤ m → m ≤ 64 → mark self.old.strip.now m ≤ 64 }
+        requires stuck { Stuck (waits (G.numbers self.old.graph.now) self.old.strip.now) (G.edges self.old.graph.now) }
+        ensures same { Keeps self.old self.new }
+        ensures ring { Walked (G.numbers self.old.graph.now) (G.edges self.old.graph.now) self.new.strip.now result.base result.size }
+    {
+        let mut at = from;
+        let mut base = 128u8;
+        while self.mark(at) == 0 {
+            self.put(at, base);
+            base -= 1;
+            match self.before(at) {
+                Some(u) => at = u,
+                None => unreachable(),
+            }
+        }
+        Row {
+            base,
+            size: self.mark(at) - base,
+        }
+    }
+
+    // Writes the numbers of a row.
+    fn write(&self, list: &mut [u32], row: Row)
+        requires { (row.size ≤ length list.old) × (row.base + row.size ≤ 128) }
+        ensures row { (xs : List ℕ) → length xs ≡ row.size → Marked row.base xs self.now.strip.now → take row.size list.new ≡ xs }
+        ensures rest { drop row.size list.new ≡ drop row.size list.old }
+    {
+        for m in 1..65u32 {
+            let mark = self.mark(m);
+            if mark > row.base && mark <= row.base + row.size {
+                list[(mark - row.base - 1) as usize] = m;
+            }
         }
     }
 }
 
-// The smallest waiting number.
-fn left<G: Graph>(graph: &G, strip: &[u8]) -> Option<u32>
-    requires { 64 ≤ length strip.now }
-    ensures { MatchOption result ((m : ℕ) → 1 ≤ m → m ≤ 64 → waits (G.numbers graph.now) strip.now m ≡ false) (λ m. (1 ≤ m) × (m ≤ 64) × (waits (G.numbers graph.now) strip.now m ≡ true)) }
-{
-    for m in 1..65u32 {
-        if waiting(graph, strip, m) {
-            return Some(m);
-        }
-    }
-    None
-}
-
-// Fills the front of `list` with the first order, or else with a cycle, and leaves its marks on the strip.
-fn fill<G: Graph>(graph: &G, list: &mut [u32], strip: &mut [u8]) -> Found
-    requires { (64 ≤ length strip.old) × (length (among (G.numbers graph.now)) ≤ length list.old) }
+// Fills the front of `list` with the first order, or else with a cycle.
+fn fill<G: Graph>(graph: &G, list: &mut [u32], strip: &mut [u8; 64]) -> Found
+    requires { length (among (G.numbers graph.now)) ≤ length list.old }
     ensures found { Finds (G.numbers graph.now) (G.edges graph.now) list.old list.new result }
-    ensures rest { drop 64 strip.new ≡ drop 64 strip.old }
+    ensures blank { strip.new ≡ replicate 64 0 }
 {
-    wipe(strip);
-    let placed = place(graph, strip);
-    if let Some(from) = left(graph, strip) {
-        let ring = walk(graph, strip, from);
-        write(list, strip, ring.base, ring.size);
+    strip.fill(0);
+    let mut marks = Marks { graph, strip };
+    let placed = marks.place();
+    if let Some(from) = marks.left() {
+        let ring = marks.walk(from);
+        marks.write(list, ring);
         return Found::Cycle(ring.size as usize);
     }
-    write(list, strip, 0, placed);
+    marks.write(
+        list,
+        Row {
+            base: 0,
+            size: placed,
+        },
+    );
     Found::Order(placed as usize)
 }
 
@@ -201,19 +199,16 @@ pub fn search<G: Graph>(graph: &G, list: &mut [u32], strip: &mut [u8]) -> Result
     ensures strip { strip.new ≡ strip_after result strip.old }
     ensures lists { Lists (G.numbers graph.now) (G.edges graph.now) list.old list.new result }
 {
-    if strip.len() < 64 {
+    let Some(strip) = strip.first_chunk_mut::<64>() else {
         return Err(Refusal::StripShort);
-    }
+    };
     if list.len() < count(graph) {
         return Err(Refusal::ListShort);
     }
-    let marks = Marks { strip };
-    let found = fill(graph, list, marks.strip);
-    Ok(found)
+    Ok(fill(graph, list, strip))
 }
 
 // That an order follows every edge exactly when each edge between its numbers runs forward.
 pub fn follows_stands()
     ensures { FollowsForward }
-{
-}
+{}

@@ -33,21 +33,15 @@ impl Graph for WaitList<'_> {
     ghost edges = { λ w. waits_edge w.rows.now };
 
     fn has(&self, n: u32) -> bool {
-        for row in self.rows {
-            if row.winch == n || row.awaited == n {
-                return true;
-            }
-        }
-        false
+        self.rows
+            .iter()
+            .any(|row| row.winch == n || row.awaited == n)
     }
 
     fn edge(&self, from: u32, to: u32) -> bool {
-        for row in self.rows {
-            if row.awaited == from && row.winch == to {
-                return true;
-            }
-        }
-        false
+        self.rows
+            .iter()
+            .any(|row| row.awaited == from && row.winch == to)
     }
 }
 
@@ -55,18 +49,14 @@ impl Graph for WaitList<'_> {
 fn is_winch(n: u32) -> bool
     ensures { result ≡ is_winch n }
 {
-    1 <= n && n <= 64
+    (1..=64).contains(&n)
 }
 
 fn all_winches(rows: &[Wait]) -> bool
     ensures { result ≡ all_winches rows.now }
 {
-    for row in rows {
-        if !is_winch(row.winch) || !is_winch(row.awaited) {
-            return false;
-        }
-    }
-    true
+    rows.iter()
+        .all(|row| is_winch(row.winch) && is_winch(row.awaited))
 }
 
 // The first order in which the winches can move, or a cycle of winches that wait for one another.

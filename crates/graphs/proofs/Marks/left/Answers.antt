@@ -1,0 +1,9 @@
+use Rattle.std.proofs.Common.{◌≡◌, true, false, rules, tests}
+use Rattle.graphs.specs.Rows.{waits}
+use Rattle.graphs.proofs.Firsts.{first_number}
+use Rattle.graphs.proofs.Marks.left.Goals as goal
+
+pub returns : goal.returns
+returns g c =
+    let U = waits (g.G.Graph.numbers c.args.self.now.graph.now) c.args.self.now.strip.now in
+    first_number _ _ c.find.result (λ m. U m ≡ true) (λ m. U m ≡ false) c.find.ensures.ran (λ m q k. search (rules, tests)) (λ m q k. search (rules, tests)) (λ h. h) (λ x l h t n. (l, h, t))
