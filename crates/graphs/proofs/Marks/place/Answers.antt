@@ -1,4 +1,4 @@
-use Rattle.std.proofs.Common.{◌+◌, ◌-◌, ◌<◌, ◌≤◌, length, refl, ◌∙◌, arith}
+use Rattle.std.proofs.Common.{◌<◌, ◌≤◌, length, refl, ◌∙◌, arith}
 use Rattle.graphs.proofs.Placed.{placing_none, place_fits, placing_more, placed_less}
 use Rattle.graphs.proofs.Marks.place.Goals as goal
 

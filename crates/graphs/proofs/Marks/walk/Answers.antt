@@ -1,4 +1,4 @@
-use Rattle.std.proofs.Common.{◌≡◌, ◌-◌, ◌≤◌, length, sym, refl, ◌∙◌, arith}
+use Rattle.std.proofs.Common.{◌≡◌, ◌≤◌, length, sym, refl, ◌∙◌, arith}
 use Rattle.graphs.specs.Rows.{mark}
 use Rattle.graphs.proofs.Walks.{walking_none, walk_room, walking_more, walked_less, stuck_still, never_ready, walk_over, walked_all}
 use Rattle.graphs.proofs.Marks.walk.Goals as goal

@@ -1,4 +1,4 @@
-use Rattle.std.proofs.Common.{◌≡◌, length}
+use Rattle.std.proofs.Common.{length}
 use Rattle.orders.specs.Orders.{among}
 use Rattle.graphs.specs.Kept.{Keeps}
 use Rattle.graphs.specs.Rows.{waits, fresh, Walking, Stuck}
