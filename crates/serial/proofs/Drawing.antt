@@ -1,5 +1,5 @@
 -- The steps of the loops that draw the graph. Assumes nothing.
-use Rattle.std.proofs.Common.{◌≡◌, ℕ, ◌+◌, ◌<◌, Bool, true, false, ◌&&◌, ◌||◌, eqb, List, [], length, get_or, drop, set, replicate, sym, refl, ap, ◌∙◌, inl, inr, arith}
+use Rattle.std.proofs.Common.{◌≡◌, ℕ, ◌+◌, ◌-◌, ◌<◌, Bool, true, false, ◌&&◌, ◌||◌, eqb, List, [], length, get_or, drop, set, replicate, sym, refl, ap, ◌∙◌, inl, inr, arith}
 use mathlib.Core.Bool.{or_assoc}
 use Rattle.std.proofs.lemmas.List.{get_or-replicate, get_or-set_same, get_or-set_other}
 use Rattle.std.proofs.lemmas.Bool.{and_from, and_left, and_right, both_ways, cases_Bool, cases_eq, eq-eqb, ne_eqb, or_left, or_right}
@@ -13,140 +13,138 @@ use Rattle.history.specs.Order.{joins, arrow}
 use Rattle.history.specs.Marked.{marked}
 use Rattle.history.proofs.Committed.{cue_low, cue_high}
 use Rattle.history.proofs.Marks.{marked_cue}
-use Rattle.serial.specs.Drawn.{cell, drawn, Adds}
+use Rattle.serial.specs.Drawn.{drawn, Adds}
 
--- an edge between cues
-drawn_at : (edges : List Bool) (i j : ℕ) → is_cue i ≡ true → is_cue j ≡ true → drawn edges i j ≡ get_or edges (cell i j) false
-drawn_at edges i j ci cj =
-    ap (λ (b : Bool). b && (is_cue j && get_or edges (cell i j) false)) ci ∙ ap (λ (b : Bool). b && get_or edges (cell i j) false) cj
+-- a cue in a table where another is marked
+marked_same : (row : List Bool) (n : ℕ) → length row ≡ 64 → is_cue n ≡ true → marked (set row (n - 1) true) n ≡ true
+marked_same row n long c =
+    and_from (is_cue n) (get_or (set row (n - 1) true) (n - 1) false) c (get_or-set_same row (n - 1) true false (omega (arith, cue_low n c, cue_high n c)))
 
-pub cell_below : (i j : ℕ) → is_cue i ≡ true → is_cue j ≡ true → cell i j < 4096
-cell_below i j ci cj = omega (arith, cue_low i ci, cue_high i ci, cue_low j cj, cue_high j cj)
+marked_other : (row : List Bool) (n j : ℕ) → is_cue n ≡ true → is_cue j ≡ true → (n ≡ j → ⊥) → marked (set row (n - 1) true) j ≡ marked row j
+marked_other row n j c cj ne =
+    ap (λ (b : Bool). is_cue j && b) (get_or-set_other row (n - 1) (j - 1) true false (λ e. ne (omega (arith, cue_low n c, cue_low j cj))))
 
-cell_row : (i j a b : ℕ) → is_cue i ≡ true → is_cue j ≡ true → is_cue a ≡ true → is_cue b ≡ true → cell i j ≡ cell a b → i ≡ a
-cell_row i j a b ci cj ca cb e = omega (arith, cue_low i ci, cue_low j cj, cue_high j cj, cue_low a ca, cue_low b cb, cue_high b cb)
-
-cell_column : (i j a b : ℕ) → is_cue i ≡ true → is_cue j ≡ true → is_cue a ≡ true → is_cue b ≡ true → cell i j ≡ cell a b → j ≡ b
-cell_column i j a b ci cj ca cb e =
-    let row = cell_row i j a b ci cj ca cb e in omega (arith, cue_low j cj, cue_low b cb)
-
-pub drawn_none : (i j : ℕ) → drawn (replicate 4096 false) i j ≡ false
+-- nothing is drawn at first
+pub drawn_none : (i j : ℕ) → drawn (replicate 64 (replicate 64 false)) i j ≡ false
 drawn_none i j =
     elim (cases_Bool (is_cue i)) [
       | inl ci ↦ elim (cases_Bool (is_cue j)) [
-        | inl cj ↦ drawn_at (replicate 4096 false) i j ci cj ∙ get_or-replicate 4096 (cell i j) false false (cell_below i j ci cj)
-        | inr nj ↦ and_right (is_cue i) (is_cue j && get_or (replicate 4096 false) (cell i j) false) (and_left (is_cue j) (get_or (replicate 4096 false) (cell i j) false) nj)
+        | inl cj ↦
+            let row : get_or (replicate 64 (replicate 64 false)) (i - 1) [] ≡ replicate 64 false = get_or-replicate 64 (i - 1) (replicate 64 false) [] (omega (arith, cue_low i ci, cue_high i ci)) in
+            and_right (is_cue i) _ (and_right (is_cue j) _ (ap (λ (r : List Bool). get_or r (j - 1) false) row ∙ get_or-replicate 64 (j - 1) false false (omega (arith, cue_low j cj, cue_high j cj))))
+        | inr nj ↦ and_right (is_cue i) _ (and_left (is_cue j) _ nj)
       ]
-      | inr ni ↦ and_left (is_cue i) (is_cue j && get_or (replicate 4096 false) (cell i j) false) ni
+      | inr ni ↦ and_left (is_cue i) _ ni
     ]
 
 module _ {K : Type 0} (alike : K → K → Bool) (cues : List Bool) where
   -- one turn of the loop that draws from x, at the entry y
-  abbrev pub Turn : (x y : Entry K) (edges edges' : List Bool) → Type 0
-  Turn x y edges edges' = (i j : ℕ) → marked cues i ≡ true → marked cues j ≡ true → (s : Bool) → (drawn edges' i j || s) ≡ (drawn edges i j || (joins alike i j x y || s))
+  abbrev pub Turn : (x y : Entry K) (row row' : List Bool) → Type 0
+  Turn x y row row' = (j : ℕ) → marked cues j ≡ true → (s : Bool) → (marked row' j || s) ≡ (marked row j || (joins alike x.cue j x y || s))
 
-  module _ (x y : Entry K) (edges : List Bool) where
-    turn_not : (i j : ℕ) (s : Bool) → joins alike i j x y ≡ false → (drawn edges i j || s) ≡ (drawn edges i j || (joins alike i j x y || s))
-    turn_not i j s e = ap (λ (b : Bool). drawn edges i j || (b || s)) (sym e)
+  module _ (x y : Entry K) (row : List Bool) where
+    turn_not : (j : ℕ) (s : Bool) → joins alike x.cue j x y ≡ false → (marked row j || s) ≡ (marked row j || (joins alike x.cue j x y || s))
+    turn_not j s e = ap (λ (b : Bool). marked row j || (b || s)) (sym e)
 
-    other_later : (i j : ℕ) → (y.cue ≡ j → ⊥) → joins alike i j x y ≡ false
-    other_later i j ne = and_right (eqb x.cue i) (eqb y.cue j && conflict alike x y) (and_left (eqb y.cue j) (conflict alike x y) (ne_eqb y.cue j ne))
+    other_later : (j : ℕ) → (y.cue ≡ j → ⊥) → joins alike x.cue j x y ≡ false
+    other_later j ne = and_right (eqb x.cue x.cue) (eqb y.cue j && conflict alike x y) (and_left (eqb y.cue j) (conflict alike x y) (ne_eqb y.cue j ne))
 
-    other_earlier : (i j : ℕ) → (x.cue ≡ i → ⊥) → joins alike i j x y ≡ false
-    other_earlier i j ne = and_left (eqb x.cue i) (eqb y.cue j && conflict alike x y) (ne_eqb x.cue i ne)
+    pub turn_other : false ≡ marked cues y.cue → Turn x y row row
+    turn_other n j mj s = turn_not j s (other_later j (λ e. both_ways (marked cues j) (ap (marked cues) (sym e) ∙ sym n) mj))
 
-    pub turn_other : marked cues y.cue ≡ false → Turn x y edges edges
-    turn_other n i j mi mj s = turn_not i j s (other_later i j (λ e. both_ways (marked cues j) (ap (marked cues) (sym e) ∙ n) mj))
+    pub turn_none : false ≡ conflict alike x y → Turn x y row row
+    turn_none n j mj s = turn_not j s (and_right (eqb x.cue x.cue) (eqb y.cue j && conflict alike x y) (and_right (eqb y.cue j) (conflict alike x y) (sym n)))
 
-    pub turn_none : conflict alike x y ≡ false → Turn x y edges edges
-    turn_none n i j mi mj s = turn_not i j s (and_right (eqb x.cue i) (eqb y.cue j && conflict alike x y) (and_right (eqb y.cue j) (conflict alike x y) n))
+    pub turn_known : true ≡ marked row y.cue → Turn x y row row
+    turn_known known j mj s =
+        elim (cases_eq y.cue j) [
+          | inl e ↦
+              let d : marked row j ≡ true = ap (marked row) (sym e) ∙ sym known in
+              or_left (marked row j) s d ∙ sym (or_left (marked row j) (joins alike x.cue j x y || s) d)
+          | inr ne ↦ turn_not j s (other_later j ne)
+        ]
 
-    module _ (mx : marked cues x.cue ≡ true) (my : marked cues y.cue ≡ true) where
-      cx : is_cue x.cue ≡ true
-      cx = marked_cue cues x.cue mx
-
-      cy : is_cue y.cue ≡ true
-      cy = marked_cue cues y.cue my
-
-      pub turn_known : get_or edges (cell x.cue y.cue) false ≡ true → Turn x y edges edges
-      turn_known known i j mi mj s =
-          elim (cases_eq x.cue i) [
-            | inl ex ↦ elim (cases_eq y.cue j) [
-              | inl ey ↦
-                  let d : drawn edges i j ≡ true = sym (λ k. drawn edges (ex k) (ey k)) ∙ drawn_at edges x.cue y.cue cx cy ∙ known in
-                  or_left (drawn edges i j) s d ∙ sym (or_left (drawn edges i j) (joins alike i j x y || s) d)
-              | inr ny ↦ turn_not i j s (other_later i j ny)
-            ]
-            | inr nx ↦ turn_not i j s (other_earlier i j nx)
-          ]
-
-      pub turn_drawn : length edges ≡ 4096 → conflict alike x y ≡ true → Turn x y edges (set edges (cell x.cue y.cue) true)
-      turn_drawn long clash i j mi mj s =
-          let at = cell x.cue y.cue in
-          let ci = marked_cue cues i mi in
-          let cj = marked_cue cues j mj in
-          let still : (cell i j ≡ at → ⊥) → drawn (set edges at true) i j ≡ drawn edges i j =
-          λ ne. drawn_at (set edges at true) i j ci cj ∙ get_or-set_other edges at (cell i j) true false ne ∙ sym (drawn_at edges i j ci cj) in
-          elim (cases_eq x.cue i) [
-            | inl ex ↦ elim (cases_eq y.cue j) [
-              | inl ey ↦
-                  let below : at < length edges = omega (arith, cell_below x.cue y.cue cx cy) in
-                  let d : drawn (set edges at true) i j ≡ true =
-                  sym (λ k. drawn (set edges at true) (ex k) (ey k)) ∙ drawn_at (set edges at true) x.cue y.cue cx cy ∙ get_or-set_same edges at true false below in
-                  let t : joins alike i j x y ≡ true =
-                  and_from (eqb x.cue i) (eqb y.cue j && conflict alike x y) (eq-eqb x.cue i ex) (and_from (eqb y.cue j) (conflict alike x y) (eq-eqb y.cue j ey) clash) in
-                  or_left (drawn (set edges at true) i j) s d
-                  ∙ sym (or_right (drawn edges i j) (joins alike i j x y || s) (or_left (joins alike i j x y) s t))
-              | inr ny ↦
-                  ap (λ (b : Bool). b || s) (still (λ e. ny (sym (cell_column i j x.cue y.cue ci cj cx cy e)))) ∙ turn_not i j s (other_later i j ny)
-            ]
-            | inr nx ↦
-                ap (λ (b : Bool). b || s) (still (λ e. nx (sym (cell_row i j x.cue y.cue ci cj cx cy e)))) ∙ turn_not i j s (other_earlier i j nx)
-          ]
+    pub turn_drawn : length row ≡ 64 → true ≡ marked cues y.cue → true ≡ conflict alike x y → Turn x y row (set row (y.cue - 1) true)
+    turn_drawn long my clash j mj s =
+        let row' = set row (y.cue - 1) true in
+        let cy : is_cue y.cue ≡ true = marked_cue cues y.cue (sym my) in
+        elim (cases_eq y.cue j) [
+          | inl e ↦
+              let d : marked row' j ≡ true = ap (marked row') (sym e) ∙ marked_same row y.cue long cy in
+              let t : joins alike x.cue j x y ≡ true =
+              and_from (eqb x.cue x.cue) (eqb y.cue j && conflict alike x y) (eq-eqb x.cue x.cue refl) (and_from (eqb y.cue j) (conflict alike x y) (eq-eqb y.cue j e) (sym clash)) in
+              or_left (marked row' j) s d ∙ sym (or_right (marked row j) (joins alike x.cue j x y || s) (or_left (joins alike x.cue j x y) s t))
+          | inr ne ↦
+              ap (λ (b : Bool). b || s) (marked_other row y.cue j cy (marked_cue cues j mj) ne) ∙ turn_not j s (other_later j ne)
+        ]
 
   -- what is drawn, with what is still to be drawn from x, comes to the same as at the start
-  abbrev pub Drawing : (x : Entry K) (later : List (Entry K)) (q : ℕ) (start edges : List Bool) → Type 0
-  Drawing x later q start edges = (i j : ℕ) → marked cues i ≡ true → marked cues j ≡ true → (drawn edges i j || some (joins alike i j x) (drop q later)) ≡ (drawn start i j || some (joins alike i j x) later)
+  abbrev pub Drawing : (x : Entry K) (later : List (Entry K)) (q : ℕ) (start row : List Bool) → Type 0
+  Drawing x later q start row = (j : ℕ) → marked cues j ≡ true → (marked row j || some (joins alike x.cue j x) (drop q later)) ≡ (marked start j || some (joins alike x.cue j x) later)
 
-  pub drawing_more : (x y : Entry K) (later : List (Entry K)) (q : ℕ) (start edges edges' : List Bool) → q < length later → y ≡ get_or later q y → Turn x y edges edges' → Drawing x later q start edges → Drawing x later (q + 1) start edges'
-  drawing_more x y later q start edges edges' h e turn before i j mi mj =
-      turn i j mi mj (some (joins alike i j x) (drop (q + 1) later))
-      ∙ ap (λ (ys : List (Entry K)). drawn edges i j || some (joins alike i j x) ys) (sym (drop_read later q y h e))
-      ∙ before i j mi mj
+  pub drawing_more : (x y : Entry K) (later : List (Entry K)) (q : ℕ) (start row row' : List Bool) → q < length later → y ≡ get_or later q y → Turn x y row row' → Drawing x later q start row → Drawing x later (q + 1) start row'
+  drawing_more x y later q start row row' h e turn before j mj =
+      turn j mj (some (joins alike x.cue j x) (drop (q + 1) later))
+      ∙ ap (λ (ys : List (Entry K)). marked row j || some (joins alike x.cue j x) ys) (sym (drop_read later q y h e))
+      ∙ before j mj
 
 or_none : (b : Bool) → (b || false) ≡ b
 or_none true = refl
 or_none false = refl
 
 module _ {K : Type 0} (alike : K → K → Bool) (cues : List Bool) (es : List (Entry K)) where
-  pub drawing_all : (x : Entry K) (q : ℕ) (start edges : List Bool) → drop q es ≡ [] → Drawing alike cues x es q start edges → Adds alike cues start edges x es
-  drawing_all x q start edges e all i j mi mj =
-      sym (or_none (drawn edges i j)) ∙ ap (λ (ys : List (Entry K)). drawn edges i j || some (joins alike i j x) ys) (sym e) ∙ all i j mi mj
+  pub drawing_all : (x : Entry K) (q : ℕ) (start row : List Bool) → drop q es ≡ [] → Drawing alike cues x es q start row → Adds alike cues start row x es
+  drawing_all x q start row e all j mj =
+      sym (or_none (marked row j)) ∙ ap (λ (ys : List (Entry K)). marked row j || some (joins alike x.cue j x) ys) (sym e) ∙ all j mj
 
   -- the graph has the arrows of the pairs whose earlier entry has come
-  abbrev pub Drew : (p : ℕ) (edges : List Bool) → Type 0
+  abbrev pub Drew : (p : ℕ) (edges : List (List Bool)) → Type 0
   Drew p edges = (i j : ℕ) → marked cues i ≡ true → marked cues j ≡ true → (drawn edges i j || some_pair (joins alike i j) (drop p es)) ≡ arrow alike es i j
 
-  module _ (p : ℕ) (edges : List Bool) (before : Drew p edges) (x : Entry K) (h : p < length es) (e : x ≡ get_or es p x) where
+  module _ (p : ℕ) (edges : List (List Bool)) (before : Drew p edges) (x : Entry K) (h : p < length es) (e : x ≡ get_or es p x) where
     here : (i j : ℕ) → marked cues i ≡ true → marked cues j ≡ true → (drawn edges i j || (some (joins alike i j x) (drop (p + 1) es) || some_pair (joins alike i j) (drop (p + 1) es))) ≡ arrow alike es i j
     here i j mi mj = ap (λ (ys : List (Entry K)). drawn edges i j || some_pair (joins alike i j) ys) (sym (drop_read es p x h e)) ∙ before i j mi mj
 
-    pub drew_more : (edges' : List Bool) → Adds alike cues edges edges' x (drop (p + 1) es) → Drew (p + 1) edges'
-    drew_more edges' adds i j mi mj =
-        ap (λ (b : Bool). b || some_pair (joins alike i j) (drop (p + 1) es)) (adds i j mi mj)
-        ∙ or_assoc (drawn edges i j) (some (joins alike i j x) (drop (p + 1) es)) (some_pair (joins alike i j) (drop (p + 1) es))
-        ∙ here i j mi mj
+    -- x joins only its own cue to others
+    other_earlier : (i j : ℕ) (ys : List (Entry K)) → (x.cue ≡ i → ⊥) → some (joins alike i j x) ys ≡ false
+    other_earlier i j ys ne = some_none (joins alike i j x) ys (λ y. and_left (eqb x.cue i) (eqb y.cue j && conflict alike x y) (ne_eqb x.cue i ne))
 
-    pub drew_past : marked cues x.cue ≡ false → Drew (p + 1) edges
+    pub drew_past : false ≡ marked cues x.cue → Drew (p + 1) edges
     drew_past n i j mi mj =
         let none : some (joins alike i j x) (drop (p + 1) es) ≡ false =
-        some_none (joins alike i j x) (drop (p + 1) es)
-        (λ y. and_left (eqb x.cue i) (eqb y.cue j && conflict alike x y) (ne_eqb x.cue i (λ same. both_ways (marked cues i) (ap (marked cues) (sym same) ∙ n) mi))) in
+        other_earlier i j (drop (p + 1) es) (λ same. both_ways (marked cues i) (ap (marked cues) (sym same) ∙ sym n) mi) in
         ap (λ (b : Bool). drawn edges i j || (b || some_pair (joins alike i j) (drop (p + 1) es))) (sym none) ∙ here i j mi mj
 
-  pub drew_none : Drew 0 (replicate 4096 false)
+    module _ (long : length edges ≡ 64) (mx : true ≡ marked cues x.cue) (row' : List Bool) (adds : Adds alike cues (get_or edges (x.cue - 1) []) row' x (drop (p + 1) es)) where
+      cx : is_cue x.cue ≡ true
+      cx = marked_cue cues x.cue (sym mx)
+
+      -- what is drawn then
+      drawn_then : (i j : ℕ) → marked cues i ≡ true → marked cues j ≡ true → drawn (set edges (x.cue - 1) row') i j ≡ (drawn edges i j || some (joins alike i j x) (drop (p + 1) es))
+      drawn_then i j mi mj =
+          elim (cases_eq x.cue i) [
+            | inl same ↦
+                let own : drawn (set edges (x.cue - 1) row') x.cue j ≡ (drawn edges x.cue j || some (joins alike x.cue j x) (drop (p + 1) es)) =
+                ap (λ (b : Bool). b && marked (get_or (set edges (x.cue - 1) row') (x.cue - 1) []) j) cx
+                ∙ ap (λ (r : List Bool). marked r j) (get_or-set_same edges (x.cue - 1) row' [] (omega (arith, cue_low x.cue cx, cue_high x.cue cx)))
+                ∙ adds j mj
+                ∙ ap (λ (b : Bool). (b && marked (get_or edges (x.cue - 1) []) j) || some (joins alike x.cue j x) (drop (p + 1) es)) (sym cx) in
+                ap (λ (n : ℕ). drawn (set edges (x.cue - 1) row') n j) (sym same) ∙ own ∙ ap (λ (n : ℕ). drawn edges n j || some (joins alike n j x) (drop (p + 1) es)) same
+            | inr ne ↦
+                ap (λ (r : List Bool). is_cue i && marked r j) (get_or-set_other edges (x.cue - 1) (i - 1) row' [] (λ s. ne (omega (arith, cue_low x.cue cx, cue_low i (marked_cue cues i mi)))))
+                ∙ sym (or_none (drawn edges i j))
+                ∙ ap (λ (b : Bool). drawn edges i j || b) (sym (other_earlier i j (drop (p + 1) es) ne))
+          ]
+
+      pub drew_more : Drew (p + 1) (set edges (x.cue - 1) row')
+      drew_more i j mi mj =
+          ap (λ (b : Bool). b || some_pair (joins alike i j) (drop (p + 1) es)) (drawn_then i j mi mj)
+          ∙ or_assoc (drawn edges i j) (some (joins alike i j x) (drop (p + 1) es)) (some_pair (joins alike i j) (drop (p + 1) es))
+          ∙ here i j mi mj
+
+  pub drew_none : Drew 0 (replicate 64 (replicate 64 false))
   drew_none i j mi mj = ap (λ (b : Bool). b || arrow alike es i j) (drawn_none i j)
 
-  pub drew_all : (p : ℕ) (edges : List Bool) → drop p es ≡ [] → Drew p edges → (i j : ℕ) → marked cues i ≡ true → marked cues j ≡ true → drawn edges i j ≡ arrow alike es i j
+  pub drew_all : (p : ℕ) (edges : List (List Bool)) → drop p es ≡ [] → Drew p edges → (i j : ℕ) → marked cues i ≡ true → marked cues j ≡ true → drawn edges i j ≡ arrow alike es i j
   drew_all p edges e all i j mi mj =
       sym (or_none (drawn edges i j)) ∙ ap (λ (ys : List (Entry K)). drawn edges i j || some_pair (joins alike i j) ys) (sym e) ∙ all i j mi mj

@@ -33,15 +33,14 @@ fn are_two_cues(i: u32, j: u32) -> bool
 fn first_pair<K: Item>(entries: &[Entry<K>], i: u32, j: u32) -> Option<Pair>
     ensures { result ≡ why_of K.Item.alike entries.now i j }
 {
-    for p in 0..entries.len() {
-        let x = &entries[p];
+    for (p, x) in entries.iter().enumerate() {
         if x.cue == i {
-            for q in p + 1..entries.len() {
-                let y = &entries[q];
+            let later = &entries[p + 1..];
+            for (q, y) in later.iter().enumerate() {
                 if y.cue == j && conflicts(x, y) {
                     return Some(Pair {
                         first: p + 1,
-                        second: q + 1,
+                        second: p + 2 + q,
                     });
                 }
             }
@@ -79,5 +78,4 @@ pub fn order_of<K: Item>(
 // That a cycle lasts: once there is one, no order is found again.
 pub fn cycle_lasts<K>()
     ensures { CycleLasts K }
-{
-}
+{}

@@ -8,5 +8,5 @@ invariant-loop-p g l = pair_from g.K.Item.alike l.i l.j (l.p + 1) (drop l.p l.en
 
 abbrev pub invariant-loop-q : goal.invariant-loop-q
 invariant-loop-q g l =
-    or_else (pair_with g.K.Item.alike l.j l.x (l.p + 1) (l.q + 1) (drop l.q l.entries)) (pair_from g.K.Item.alike l.i l.j (l.p + 1 + 1) (drop (l.p + 1) l.entries))
+    or_else (pair_with g.K.Item.alike l.j l.x (l.p + 1) (l.p + 2 + l.q) (drop l.q l.later)) (pair_from g.K.Item.alike l.i l.j (l.p + 2) (drop (l.p + 1) l.entries))
     ≡ why_of g.K.Item.alike l.entries l.i l.j

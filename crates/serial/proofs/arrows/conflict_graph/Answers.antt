@@ -1,5 +1,5 @@
-use Rattle.std.proofs.Common.{◌≡◌, ◌+◌, length, drop, sym, refl, ap, ◌∙◌, subst, arith}
-use Rattle.std.proofs.lemmas.List.{drop_all, take_rest}
+use Rattle.std.proofs.Common.{◌≡◌, ◌+◌, ◌-◌, [], length, get_or, drop, refl, ap, ◌∙◌, subst, arith}
+use Rattle.std.proofs.lemmas.List.{drop_all, length-set, take_rest}
 use Rattle.serial.specs.Drawn.{Adds}
 use Rattle.serial.proofs.Drawing.{Drew, drew_none, drew_more, drew_past, drew_all}
 use Rattle.serial.proofs.arrows.conflict_graph.Goals as goal
@@ -20,17 +20,15 @@ loop-p-preserved g c =
     let drew : Drew alike cues es (p + 1) edges' =
     elim c.if-is_marked.branch [
       | then-is_marked w ↦
-          let last = w.draw_from.new.edges in
-          let adds : Adds alike cues edges last x (drop (p + 1) es) = subst (Adds alike cues edges last x) (take_rest es (p + 1)) w.draw_from.ensures in
-          subst (Drew alike cues es (p + 1)) (sym w.edges-is)
-          (drew_more alike cues es p edges c.loop-p.invariant.1 x c.loop-p-test.true c.index-entries-p.is last adds)
+          let row = w.draw_from.new.row in
+          let adds : Adds alike cues (get_or edges (x.cue - 1) []) row x (drop (p + 1) es) = subst (Adds alike cues (get_or edges (x.cue - 1) []) row x) (take_rest es (p + 1)) w.draw_from.ensures in
+          rw w.edges-is (drew_more alike cues es p edges c.loop-p.invariant.1 x c.loop-p-test.true c.index-entries-p.is c.loop-p.invariant.0 w.if-is_marked.ensures row adds)
       | else-is_marked w ↦
-          subst (Drew alike cues es (p + 1)) (sym w.edges-is)
-          (drew_past alike cues es p edges c.loop-p.invariant.1 x c.loop-p-test.true c.index-entries-p.is (sym w.if-is_marked.ensures))
+          rw w.edges-is (drew_past alike cues es p edges c.loop-p.invariant.1 x c.loop-p-test.true c.index-entries-p.is w.if-is_marked.ensures)
     ] in
-    let long : length edges' ≡ 4096 =
+    let long : length edges' ≡ 64 =
     elim c.if-is_marked.branch [
-      | then-is_marked w ↦ ap length w.edges-is ∙ w.draw_from.array_long
+      | then-is_marked w ↦ ap length w.edges-is ∙ length-set edges (x.cue - 1) _ ∙ c.loop-p.invariant.0
       | else-is_marked w ↦ ap length w.edges-is ∙ c.loop-p.invariant.0
     ] in
     (long, drew)

@@ -3,4 +3,4 @@ use Rattle.serial.proofs.Drawing.{Drew}
 use Rattle.serial.proofs.arrows.conflict_graph.Given as goal
 
 abbrev pub invariant-loop-p : goal.invariant-loop-p
-invariant-loop-p g l = (length l.edges ≡ 4096) × Drew g.K.Item.alike l.cues l.entries l.p l.edges
+invariant-loop-p g l = (length l.edges ≡ 64) × Drew g.K.Item.alike l.cues l.entries l.p l.edges
