@@ -64,7 +64,7 @@ impl<G> Drop for Marks<'_, G> {
 }
 
 impl<G: Graph> Marks<'_, G> {
-    // The mark of the number `m`.
+    // The mark of the number `m`. Numbers stay plain, with their bounds in the clauses, since a graph is asked of plain ones.
     fn mark(&self, m: u32) -> u8
         requires { (1 ≤ m) × (m ≤ 64) }
         ensures { result ≡ mark self.now.strip.now m }

@@ -1,17 +1,16 @@
 -- What the search in the graph answers, said of the entries. Assumes nothing.
-use Rattle.std.proofs.Common.{◌≡◌, ℕ, Bool, cond, ltb, List, length, take, Some, None, Ok, Err, Result, sym, ap, ◌∙◌}
+use Rattle.std.proofs.Common.{◌≡◌, ℕ, Bool, List, length, take, Ok, Err, Result, sym, ap, ◌∙◌}
 use Rattle.refusals.specs.declared.Refusal.{Refusal}
-use Rattle.refusals.specs.declared.Refusal.TheVariants.{ListShort, StripShort}
 use Rattle.history.specs.declared.Entry.{Entry}
 use Rattle.history.specs.Entries.{committed}
 use Rattle.graphs.specs.declared.Found.{Found}
 use Rattle.graphs.specs.declared.Found.TheVariants.{Order, Cycle}
-use Rattle.graphs.specs.Answer.{search_refusal, Lists}
+use Rattle.graphs.specs.Answer.{Lists}
 use Rattle.orders.specs.Orders.{among}
 use Rattle.orders.proofs.Among.{among_same}
 use Rattle.serial.specs.declared.arrows.ConflictGraph.{ConflictGraph}
 use Rattle.history.specs.Order.{committed_cues}
-use Rattle.serial.specs.OrderAnswer.{order_refusal, OrderLists}
+use Rattle.serial.specs.OrderAnswer.{OrderLists}
 use Rattle.history.specs.Marked.{marked}
 use Rattle.serial.specs.Drawn.{drawn, Draws}
 use Rattle.serial.proofs.Kept.{first_order, conflict_cycle}
@@ -19,9 +18,6 @@ use Rattle.serial.proofs.Kept.{first_order, conflict_cycle}
 module _ {K : Type 0} (alike : K → K → Bool) (es : List (Entry K)) (g : ConflictGraph) (draws : Draws alike es g) where
   same_numbers : among (marked g.cues) ≡ committed_cues es
   same_numbers = among_same (committed es) (marked g.cues) (λ m l h. draws.numbers m)
-
-  pub same_refusal : (cells bytes : ℕ) → search_refusal (marked g.cues) cells bytes ≡ order_refusal es cells bytes
-  same_refusal cells bytes = ap (λ (us : List ℕ). cond (ltb bytes 64) (Some StripShort) (cond (ltb cells (length us)) (Some ListShort) None)) same_numbers
 
   pub same_lists : (list list' : List ℕ) (r : Result Found Refusal) → Lists (marked g.cues) (drawn g.edges) list list' r → OrderLists alike es list list' r
   same_lists list list' (Ok (Order n)) found = record {

@@ -1,5 +1,5 @@
 -- The pair that is found is the first. Assumes nothing.
-use Rattle.std.proofs.Common.{◌≡◌, ℕ, zero, suc, ◌+◌, ◌-◌, ◌<◌, ◌≤◌, Bool, true, false, cond, eqb, ◌⊎◌, List, [], ◌∷◌, length, get_or, Some, None, Ok, Err, Option, Result, sym, refl, ap, ◌∙◌, subst, inl, inr, arith}
+use Rattle.std.proofs.Common.{◌≡◌, ℕ, zero, suc, ◌+◌, ◌-◌, ◌<◌, ◌≤◌, Bool, true, false, cond, eqb, ◌⊎◌, List, [], ◌∷◌, length, get_or, Some, None, Ok, Err, Option, Result, sym, refl, ap, subst, inl, inr, arith}
 use Rattle.std.proofs.lemmas.Bool.{and_from, and_parts, both_ways, eq-eqb, eqb-true}
 use Rattle.lists.specs.Lists.{or_else}
 use Rattle.refusals.specs.declared.Refusal.{Refusal}
@@ -194,12 +194,3 @@ module _ {K : Type 0} (alike : K → K → Bool) (i j : ℕ) where
 
   pub tells : (es : List (Entry K)) (r : Result (Option Pair) Refusal) → r ≡ why_answer alike es i j → Tells alike es i j r
   tells es r e = subst (Tells alike es i j) (sym e) (tells_either es (two_cues i j))
-
-  abbrev answer : List (Entry K) → Bool → Result (Option Pair) Refusal
-  answer es b = cond b (Ok (why_of alike es i j)) (Err CuePair)
-
-  pub answered : (es : List (Entry K)) (o : Option Pair) → true ≡ two_cues i j → o ≡ why_of alike es i j → Ok o ≡ why_answer alike es i j
-  answered es o t e = ap Ok e ∙ ap (answer es) t
-
-  pub refused : (es : List (Entry K)) → false ≡ two_cues i j → Err CuePair ≡ why_answer alike es i j
-  refused es t = ap (answer es) t

@@ -28,7 +28,7 @@ impl Graph for ConflictGraph {
     }
 }
 
-// Adds to the cues that have an edge from that of `x` those of the later entries that conflict with it, if they are marked.
+// Draws, in the row of the cue of `x`, an edge to that of each later entry that conflicts with it, if it is marked.
 fn draw_from<K: Item>(x: &Entry<K>, later: &[Entry<K>], cues: &[bool; 64], row: &mut [bool; 64])
     ensures { Adds K.Item.alike cues.now row.old row.new x.now later.now }
 {
