@@ -1,7 +1,7 @@
--- Which cues are placed and which are left, and how the tests of them step. Assumes nothing.
-use Rattle.std.proofs.Common.{◌≡◌, ℕ, ◌+◌, ◌-◌, ◌<◌, Bool, true, false, not, ◌&&◌, ◌||◌, eqb, List, [], ◌∷◌, length, get_or, drop, set, filter, sym, refl, ap, ◌∙◌, inl, inr, arith}
+-- The cues that are placed and those that are left, where one more is placed. Assumes nothing.
+use Rattle.std.proofs.Common.{◌≡◌, ℕ, ◌-◌, Bool, true, false, not, ◌&&◌, ◌||◌, eqb, List, [], ◌∷◌, length, get_or, set, filter, sym, refl, ap, ◌∙◌, inl, inr, arith}
 use Rattle.std.specs.List.{AllByRecursion as All}
-use Rattle.std.proofs.lemmas.List.{at_drop_more, get_or-set_same, get_or-set_other}
+use Rattle.std.proofs.lemmas.List.{get_or-set_same, get_or-set_other}
 use Rattle.std.proofs.lemmas.Bool.{and_left, cases_Bool, cases_eq, eq-eqb, eqb-true, ne_eqb, or_left, or_right}
 use Rattle.lists.specs.Lists.{some, has}
 use Rattle.lists.proofs.Some.{some_either}
@@ -10,63 +10,13 @@ use Rattle.orders.proofs.Extending.{without_kept}
 use Rattle.history.specs.Entries.{is_cue}
 use Rattle.history.specs.Marked.{marked}
 use Rattle.history.proofs.Committed.{cue_low, cue_high}
-use Rattle.views.specs.Shown.{placed_of, left_of}
 
--- one cue more, asked of those left but x
-module _ (table : List Bool) (x : ℕ) (test : ℕ → Bool) (y : ℕ) (ys : List ℕ) where
-  left_x : y ≡ x → some test (without x (left_of (y ∷ ys) table)) ≡ some test (without x (left_of ys table))
-  left_x e =
-      let t : eqb y x ≡ true = eq-eqb y x e in
-      elim (cases_Bool (marked table y)) [ inl m ↦ rw m refl | inr n ↦ rw (n, t) refl ]
+-- of a list of cues, those that are placed, and those that are left
+abbrev pub placed_in : List ℕ → List Bool → List ℕ
+placed_in cues table = filter (marked table) cues
 
-  left_placed : marked table y ≡ true → some test (without x (left_of (y ∷ ys) table)) ≡ some test (without x (left_of ys table))
-  left_placed m = rw m refl
-
-  left_asked : (y ≡ x → ⊥) → marked table y ≡ false → some test (without x (left_of (y ∷ ys) table)) ≡ (test y || some test (without x (left_of ys table)))
-  left_asked ne n = let f : eqb y x ≡ false = ne_eqb y x ne in rw (n, f) refl
-
--- the same for those placed
-module _ (table : List Bool) (test : ℕ → Bool) (y : ℕ) (ys : List ℕ) where
-  placed_asked : marked table y ≡ true → some test (placed_of (y ∷ ys) table) ≡ (test y || some test (placed_of ys table))
-  placed_asked m = rw m refl
-
-  placed_left : marked table y ≡ false → some test (placed_of (y ∷ ys) table) ≡ some test (placed_of ys table)
-  placed_left n = rw n refl
-
--- a loop over the cues, at the one with index k
-module _ (table : List Bool) (cues : List ℕ) (k : ℕ) (h : k < length cues) where
-  here : drop k cues ≡ get_or cues k 0 ∷ drop (k + 1) cues
-  here = at_drop_more (λ zs. zs) cues k 0 h
-
-  module _ (x : ℕ) (test : ℕ → Bool) where
-    abbrev LeftFrom : List ℕ → Bool
-    LeftFrom zs = some test (without x (left_of zs table))
-
-    pub left_found : ((get_or cues k 0) ≡ x → ⊥) → marked table (get_or cues k 0) ≡ false → test (get_or cues k 0) ≡ true → LeftFrom (drop k cues) ≡ true
-    left_found ne n t = ap LeftFrom here ∙ left_asked table x test (get_or cues k 0) (drop (k + 1) cues) ne n ∙ or_left (test (get_or cues k 0)) (LeftFrom (drop (k + 1) cues)) t
-
-    pub left_other : ((get_or cues k 0) ≡ x → ⊥) → marked table (get_or cues k 0) ≡ false → test (get_or cues k 0) ≡ false → LeftFrom (drop (k + 1) cues) ≡ LeftFrom (drop k cues)
-    left_other ne n f =
-        sym (ap LeftFrom here ∙ left_asked table x test (get_or cues k 0) (drop (k + 1) cues) ne n ∙ ap (λ (b : Bool). b || LeftFrom (drop (k + 1) cues)) f)
-
-    pub left_past : marked table (get_or cues k 0) ≡ true → LeftFrom (drop (k + 1) cues) ≡ LeftFrom (drop k cues)
-    left_past m = sym (ap LeftFrom here ∙ left_placed table x test (get_or cues k 0) (drop (k + 1) cues) m)
-
-    pub left_itself : (get_or cues k 0) ≡ x → LeftFrom (drop (k + 1) cues) ≡ LeftFrom (drop k cues)
-    left_itself is = sym (ap LeftFrom here ∙ left_x table x test (get_or cues k 0) (drop (k + 1) cues) is)
-
-  module _ (test : ℕ → Bool) where
-    abbrev PlacedFrom : List ℕ → Bool
-    PlacedFrom zs = some test (placed_of zs table)
-
-    pub placed_found : marked table (get_or cues k 0) ≡ true → test (get_or cues k 0) ≡ true → PlacedFrom (drop k cues) ≡ true
-    placed_found m t = ap PlacedFrom here ∙ placed_asked table test (get_or cues k 0) (drop (k + 1) cues) m ∙ or_left (test (get_or cues k 0)) (PlacedFrom (drop (k + 1) cues)) t
-
-    pub placed_other : marked table (get_or cues k 0) ≡ true → test (get_or cues k 0) ≡ false → PlacedFrom (drop (k + 1) cues) ≡ PlacedFrom (drop k cues)
-    placed_other m f = sym (ap PlacedFrom here ∙ placed_asked table test (get_or cues k 0) (drop (k + 1) cues) m ∙ ap (λ (b : Bool). b || PlacedFrom (drop (k + 1) cues)) f)
-
-    pub placed_past : marked table (get_or cues k 0) ≡ false → PlacedFrom (drop (k + 1) cues) ≡ PlacedFrom (drop k cues)
-    placed_past n = sym (ap PlacedFrom here ∙ placed_left table test (get_or cues k 0) (drop (k + 1) cues) n)
+abbrev pub left_in : List ℕ → List Bool → List ℕ
+left_in cues table = filter (λ n. not (marked table n)) cues
 
 kept_same : (P : ℕ → Type 0) (U V : ℕ → Bool) → ((y : ℕ) → P y → U y ≡ V y) → (ys : List ℕ) → All P ys → filter U ys ≡ filter V ys
 kept_same P U V same [] h = refl
@@ -134,13 +84,13 @@ module _ (table : List Bool) (long : length table ≡ 64) (x : ℕ) (cue : is_cu
       ]
 
   module _ (cues : List ℕ) (all : All (λ n. is_cue n ≡ true) cues) where
-    pub left_set : left_of cues (set table (x - 1) true) ≡ without x (left_of cues table)
+    pub left_set : left_in cues (set table (x - 1) true) ≡ without x (left_in cues table)
     left_set =
         kept_same (λ n. is_cue n ≡ true) (λ n. not (marked (set table (x - 1) true) n)) (λ n. not (eqb n x) && not (marked table n))
         (λ y c. ap not (marked_set y c) ∙ not_or (eqb y x) (marked table y)) cues all
         ∙ sym (without_kept x (λ n. not (marked table n)) cues)
 
-    pub placed_set : has x cues ≡ true → (test : ℕ → Bool) → some test (placed_of cues (set table (x - 1) true)) ≡ some test (x ∷ placed_of cues table)
+    pub placed_set : has x cues ≡ true → (test : ℕ → Bool) → some test (placed_in cues (set table (x - 1) true)) ≡ some test (x ∷ placed_in cues table)
     placed_set h test =
         ap (some test) (kept_same (λ n. is_cue n ≡ true) (marked (set table (x - 1) true)) (λ n. eqb n x || marked table n) marked_set cues all)
         ∙ some_kept test (λ n. eqb n x || marked table n) cues

@@ -1,9 +1,10 @@
-pub mod Leaving
-pub mod Trying
 pub mod Ranking
+pub mod Listing
 pub mod Writing
 pub mod Noting
 pub mod Putting
 pub mod Asking
 pub mod Gathering
+pub mod Leaving
+pub mod Trying
 pub mod Answering

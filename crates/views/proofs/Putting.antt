@@ -1,16 +1,20 @@
 -- The loops that note what a read asks of the other writers. Assumes nothing.
-use Rattle.std.proofs.Common.{◌≡◌, ℕ, ◌+◌, ◌<◌, ◌≤◌, Bool, true, false, not, ◌&&◌, ◌||◌, eqb, ltb, ◌⊎◌, List, length, sym, refl, subst, inl, inr, arith}
+use Rattle.std.proofs.Common.{◌≡◌, ℕ, ◌+◌, ◌<◌, ◌≤◌, Bool, true, false, not, ◌&&◌, ◌||◌, eqb, ltb, ◌⊎◌, List, sym, refl, subst, inl, inr, arith}
 use Rattle.std.proofs.lemmas.Bool.{and_parts, and_right, or_cases}
 use Rattle.history.specs.Marked.{marked}
 use Rattle.history.proofs.Committed.{cue_high}
 use Rattle.history.proofs.Marks.{marked_cue}
 use Rattle.views.specs.declared.constraints.Constraints.{Constraints}
-use Rattle.views.specs.Noted.{Notes, Within, none_ahead, none_apart, first, PutsFirst, split, PutsBetween}
-use Rattle.views.specs.Tables.{Ranked, with_ahead, with_apart}
-use Rattle.views.proofs.Noting.{notes_none, notes_same, notes_two, notes_ahead, notes_apart, upto_none, upto_more, upto_past, upto_all}
+use Rattle.views.specs.declared.members.Members.{Members}
+use Rattle.views.specs.Noted.{Notes, Member, Within, none_ahead, none_apart, first, PutsAhead, PutsApart, PutsFirst, split, PutsBetween}
+use Rattle.views.proofs.Noting.{notes_none, notes_same, notes_two, upto_none, upto_more, upto_past, upto_all}
 
 marked_low : (table : List Bool) (n : ℕ) → marked table n ≡ true → n < 65
 marked_low table n m = omega (arith, cue_high n (marked_cue table n m))
+
+-- a member of the same members
+pub same_member : (t t' : Constraints) → t'.members ≡ t.members → (n : ℕ) → Member t n → Member t' n
+same_member t t' e n m = subst (λ (ms : Members). marked ms.cues n ≡ true) (sym e) m
 
 module _ (t : Constraints) (reader : ℕ) (writers : List Bool) where
   -- a writer other than the reader
@@ -19,33 +23,33 @@ module _ (t : Constraints) (reader : ℕ) (writers : List Bool) where
 
   -- the reader comes before those below n
   abbrev pub FirstUpto : ℕ → Constraints → Type 0
-  FirstUpto n t' = (c : ℕ → Bool) → Ranked c t.ranks → c reader ≡ true → Within writers c → Notes c false (λ a b. first reader writers a b && ltb b n) none_apart t t'
+  FirstUpto n t' = Member t reader → Within writers t → Notes (λ a b. first reader writers a b && ltb b n) none_apart t t'
 
   pub first_none : FirstUpto 1 t
-  first_none c ranked cr within =
-      notes_same c false false none_ahead (λ a b. first reader writers a b && ltb b 1) none_apart none_apart t t refl
-      (λ a b. sym (upto_none (eqb a reader) other (and_right (not (eqb 0 reader)) (marked writers 0) refl) b)) (λ j r n. refl) (notes_none c t)
+  first_none cr within =
+      notes_same none_ahead (λ a b. first reader writers a b && ltb b 1) none_apart none_apart t t
+      (λ a b. sym (upto_none (eqb a reader) other (and_right (not (eqb 0 reader)) (marked writers 0) refl) b)) (λ j r n. refl) (notes_none t)
 
   module _ (n : ℕ) (t' : Constraints) (had : FirstUpto n t') where
-    pub first_more : other n ≡ true → length (with_ahead t' reader n).ahead ≡ 64 → FirstUpto (n + 1) (with_ahead t' reader n)
-    first_more e long c ranked cr within =
-        let so_far = had c ranked cr within in
+    pub first_more : (t'' : Constraints) → other n ≡ true → PutsAhead t' t'' reader n → FirstUpto (n + 1) t''
+    first_more t'' e put cr within =
+        let so_far = had cr within in
         let cn = within n (and_parts (not (eqb n reader)) (marked writers n) e).1 in
-        let now = notes_ahead c t' (subst (Ranked c) (sym so_far.ranks) ranked) reader n cr cn long in
-        notes_same c false false (λ a b. (first reader writers a b && ltb b n) || (eqb a reader && eqb b n)) (λ a b. first reader writers a b && ltb b (n + 1)) none_apart none_apart t (with_ahead t' reader n) refl
+        let now = put (same_member t t' so_far.members reader cr) (same_member t t' so_far.members n cn) in
+        notes_same (λ a b. (first reader writers a b && ltb b n) || (eqb a reader && eqb b n)) (λ a b. first reader writers a b && ltb b (n + 1)) none_apart none_apart t t''
         (λ a b. upto_more (eqb a reader) other n e b) (λ j r m. refl)
-        (notes_two c false false (λ a b. first reader writers a b && ltb b n) (λ a b. eqb a reader && eqb b n) none_apart none_apart t t' (with_ahead t' reader n) so_far now)
+        (notes_two (λ a b. first reader writers a b && ltb b n) (λ a b. eqb a reader && eqb b n) none_apart none_apart t t' t'' so_far now)
 
     pub first_past : other n ≡ false → FirstUpto (n + 1) t'
-    first_past e c ranked cr within =
-        notes_same c false false (λ a b. first reader writers a b && ltb b n) (λ a b. first reader writers a b && ltb b (n + 1)) none_apart none_apart t t' refl
-        (λ a b. upto_past (eqb a reader) other n e b) (λ j r m. refl) (had c ranked cr within)
+    first_past e cr within =
+        notes_same (λ a b. first reader writers a b && ltb b n) (λ a b. first reader writers a b && ltb b (n + 1)) none_apart none_apart t t'
+        (λ a b. upto_past (eqb a reader) other n e b) (λ j r m. refl) (had cr within)
 
     pub first_all : 65 ≤ n → PutsFirst t t' reader writers
-    first_all end c ranked cr within =
-        notes_same c false false (λ a b. first reader writers a b && ltb b n) (first reader writers) none_apart none_apart t t' refl
+    first_all end cr within =
+        notes_same (λ a b. first reader writers a b && ltb b n) (first reader writers) none_apart none_apart t t'
         (λ a b. upto_all (eqb a reader) other n b (λ e. omega (arith, marked_low writers b (and_parts (not (eqb b reader)) (marked writers b) e).1))) (λ j r m. refl)
-        (had c ranked cr within)
+        (had cr within)
 
 module _ (t : Constraints) (source reader : ℕ) (earlier later : List Bool) where
   -- a writer other than these two
@@ -54,33 +58,34 @@ module _ (t : Constraints) (source reader : ℕ) (earlier later : List Bool) whe
 
   -- those below m do not stand between the source and the reader
   abbrev pub BetweenUpto : ℕ → Constraints → Type 0
-  BetweenUpto m t' = (c : ℕ → Bool) → Ranked c t.ranks → c source ≡ true → c reader ≡ true → Within earlier c → Within later c → Notes c false none_ahead (λ j r n. split source reader earlier later j r n && ltb n m) t t'
+  BetweenUpto m t' = Member t source → Member t reader → Within earlier t → Within later t → Notes none_ahead (λ j r n. split source reader earlier later j r n && ltb n m) t t'
 
   pub between_none : BetweenUpto 1 t
-  between_none c ranked cs cr we wl =
-      notes_same c false false none_ahead none_ahead none_apart (λ j r n. split source reader earlier later j r n && ltb n 1) t t refl (λ a b. refl)
-      (λ j r n. sym (upto_none (eqb j source && eqb r reader) third (and_right (not (eqb 0 source) && not (eqb 0 reader)) (marked earlier 0 || marked later 0) refl) n)) (notes_none c t)
+  between_none cs cr we wl =
+      notes_same none_ahead none_ahead none_apart (λ j r n. split source reader earlier later j r n && ltb n 1) t t (λ a b. refl)
+      (λ j r n. sym (upto_none (eqb j source && eqb r reader) third (and_right (not (eqb 0 source) && not (eqb 0 reader)) (marked earlier 0 || marked later 0) refl) n)) (notes_none t)
 
   third_is : (n : ℕ) → third n ≡ true → (marked earlier n ≡ true) ⊎ (marked later n ≡ true)
   third_is n e = or_cases (marked earlier n) (marked later n) (and_parts (not (eqb n source) && not (eqb n reader)) (marked earlier n || marked later n) e).1
 
   module _ (m : ℕ) (t' : Constraints) (had : BetweenUpto m t') where
-    pub between_more : third m ≡ true → length (with_apart t' source reader m).apart ≡ 512 → BetweenUpto (m + 1) (with_apart t' source reader m)
-    between_more e long c ranked cs cr we wl =
-        let so_far = had c ranked cs cr we wl in
-        let cm : c m ≡ true = elim (third_is m e) [ inl x ↦ we m x | inr x ↦ wl m x ] in
-        let now = notes_apart c t' (subst (Ranked c) (sym so_far.ranks) ranked) source reader m cs cr cm long in
-        notes_same c false false none_ahead none_ahead (λ j r n. (split source reader earlier later j r n && ltb n m) || ((eqb j source && eqb r reader) && eqb n m)) (λ j r n. split source reader earlier later j r n && ltb n (m + 1)) t (with_apart t' source reader m) refl
+    pub between_more : (t'' : Constraints) → third m ≡ true → PutsApart t' t'' source reader m → BetweenUpto (m + 1) t''
+    between_more t'' e put cs cr we wl =
+        let so_far = had cs cr we wl in
+        let cm : Member t m = elim (third_is m e) [ inl x ↦ we m x | inr x ↦ wl m x ] in
+        let same = same_member t t' so_far.members in
+        let now = put (same source cs) (same reader cr) (same m cm) in
+        notes_same none_ahead none_ahead (λ j r n. (split source reader earlier later j r n && ltb n m) || ((eqb j source && eqb r reader) && eqb n m)) (λ j r n. split source reader earlier later j r n && ltb n (m + 1)) t t''
         (λ a b. refl) (λ j r n. upto_more (eqb j source && eqb r reader) third m e n)
-        (notes_two c false false none_ahead none_ahead (λ j r n. split source reader earlier later j r n && ltb n m) (λ j r n. (eqb j source && eqb r reader) && eqb n m) t t' (with_apart t' source reader m) so_far now)
+        (notes_two none_ahead none_ahead (λ j r n. split source reader earlier later j r n && ltb n m) (λ j r n. (eqb j source && eqb r reader) && eqb n m) t t' t'' so_far now)
 
     pub between_past : third m ≡ false → BetweenUpto (m + 1) t'
-    between_past e c ranked cs cr we wl =
-        notes_same c false false none_ahead none_ahead (λ j r n. split source reader earlier later j r n && ltb n m) (λ j r n. split source reader earlier later j r n && ltb n (m + 1)) t t' refl
-        (λ a b. refl) (λ j r n. upto_past (eqb j source && eqb r reader) third m e n) (had c ranked cs cr we wl)
+    between_past e cs cr we wl =
+        notes_same none_ahead none_ahead (λ j r n. split source reader earlier later j r n && ltb n m) (λ j r n. split source reader earlier later j r n && ltb n (m + 1)) t t'
+        (λ a b. refl) (λ j r n. upto_past (eqb j source && eqb r reader) third m e n) (had cs cr we wl)
 
     pub between_all : 65 ≤ m → PutsBetween t t' source reader earlier later
-    between_all end c ranked cs cr we wl =
-        notes_same c false false none_ahead none_ahead (λ j r n. split source reader earlier later j r n && ltb n m) (split source reader earlier later) t t' refl (λ a b. refl)
+    between_all end cs cr we wl =
+        notes_same none_ahead none_ahead (λ j r n. split source reader earlier later j r n && ltb n m) (split source reader earlier later) t t' (λ a b. refl)
         (λ j r n. upto_all (eqb j source && eqb r reader) third m n (λ e. elim (third_is n e) [ inl x ↦ omega (arith, marked_low earlier n x) | inr x ↦ omega (arith, marked_low later n x) ]))
-        (had c ranked cs cr we wl)
+        (had cs cr we wl)

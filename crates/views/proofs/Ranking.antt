@@ -1,157 +1,117 @@
--- The ranks of the cues in a table, and the cues by their ranks. Assumes nothing.
-use Rattle.std.proofs.Common.{◌≡◌, ℕ, zero, suc, ◌+◌, ◌-◌, ◌%◌, ◌<◌, ◌≤◌, Bool, true, false, cond, List, [], ◌∷◌, ◌++◌, length, get_or, take, set, replicate, filter, sym, refl, ap, ◌∙◌, inl, inr, mod-eq_of_lt, arith}
-use Rattle.std.specs.List.{range_with_len}
-use Rattle.std.proofs.lemmas.List.{length-set, get_or-set_same, get_or-set_other, take_more_set}
-use Rattle.std.proofs.lemmas.Bool.{cases_Bool, cases_eq, cases_lt, cond-true}
+-- The ranks of the members, and what is told by them. Assumes nothing.
+use Rattle.std.proofs.Common.{◌≡◌, ℕ, zero, suc, ◌+◌, ◌*◌, ◌<◌, ◌≤◌, Bool, true, false, ◌||◌, eqb, ltb, List, [], ◌∷◌, length, get_or, take, set, replicate, Some, None, Option, sym, refl, ap, ◌∙◌, inl, inr, arith}
+use mathlib.Core.Bool.{or-false}
+use Rattle.std.specs.List.{position, position_or_len}
+use Rattle.std.proofs.lemmas.List.{get_or-set_same, get_or-set_other, length-take}
+use Rattle.std.proofs.lemmas.List.Quantifiers.{position-Some}
+use Rattle.std.proofs.lemmas.Bool.{both_ways, cases_Bool, cases_eq, eqb-true, lt-ltb, cond-true, or_right}
+use Rattle.lists.specs.Lists.{has}
 use Rattle.orders.specs.Orders.{among}
-use Rattle.orders.proofs.Among.{kept_yes}
-use Rattle.history.specs.Entries.{is_cue}
+use Rattle.orders.proofs.Among.{mem_among}
+use Rattle.orders.proofs.Precedence.{stands_has}
+use Rattle.history.specs.Marked.{marked}
 use Rattle.history.proofs.Committed.{cue_low, cue_high}
-use Rattle.views.specs.Tables.{rank_in, Ranked, Lists}
+use Rattle.history.proofs.Marks.{marked_cue}
+use Rattle.views.specs.declared.members.Members.{Members}
+use Rattle.views.specs.Tables.{rank_in, digit, pair_in, triple_in, told}
 
--- the numbers below n that pass
-abbrev below : (ℕ → Bool) → ℕ → List ℕ
-below c n = filter c (range_with_len 1 (n - 1))
+pub members_few : (m : Members) → length (among (marked m.cues)) ≤ 8
+members_few m = omega (arith, sym (ap length m.rising), length-take m.count m.numbers, m.few)
 
-module _ (c : ℕ → Bool) where
-  kept_push : (a n j : ℕ) → a + n ≡ j → filter c (range_with_len a (suc n)) ≡ filter c (range_with_len a n) ++ cond (c j) (j ∷ []) []
-  kept_push a zero j e =
-      let q : a ≡ j = omega arith in
-      rw q (elim (cases_Bool (c j)) [ inl t ↦ rw t refl | inr f ↦ rw f refl ])
-  kept_push a (suc n) j e =
-      let ih : filter c (range_with_len (a + 1) (suc n)) ≡ filter c (range_with_len (a + 1) n) ++ cond (c j) (j ∷ []) [] = kept_push (a + 1) n j (omega arith) in
-      elim (cases_Bool (c a)) [ inl t ↦ rw t (ap (λ (zs : List ℕ). a ∷ zs) ih) | inr f ↦ rw f ih ]
+none_some : (o : Option ℕ) (n : ℕ) → o ≡ None → o ≡ Some n → ⊥
+none_some None n h e = let z : ◌≡◌ {A = ℕ} 0 1 = cc in absurd (omega arith)
+none_some (Some m) n h e = let z : ◌≡◌ {A = ℕ} 0 1 = cc in absurd (omega arith)
 
-  next : (n : ℕ) → 1 ≤ n → below c (n + 1) ≡ below c n ++ cond (c n) (n ∷ []) []
-  next n h = let e : n + 1 - 1 ≡ suc (n - 1) = omega arith in ap (λ (m : ℕ). filter c (range_with_len 1 m)) e ∙ kept_push 1 (n - 1) n (omega arith)
+has_place : (n : ℕ) (us : List ℕ) → has n us ≡ true → position_or_len (λ m. eqb m n) us < length us
+has_place n [] h = absurd (both_ways false refl h)
+has_place n (u ∷ us) h =
+    elim (cases_Bool (eqb u n)) [
+      | inl t ↦ rw t (omega arith)
+      | inr f ↦ let ih = has_place n us (sym (ap (λ (b : Bool). b || has n us) f) ∙ h) in rw f (omega (arith, ih))
+    ]
 
-  below_yes : (n : ℕ) → 1 ≤ n → c n ≡ true → below c (n + 1) ≡ below c n ++ n ∷ []
-  below_yes n h t = next n h ∙ ap (λ (b : Bool). below c n ++ cond b (n ∷ []) []) t
+digits : (o p : Option ℕ) (i : ℕ) → digit o p ≡ Some i → (n : ℕ) × (r : ℕ) × (o ≡ Some n) × (p ≡ Some r) × (n * 8 + r ≡ i)
+digits None p i h = absurd (none_some None i refl h)
+digits (Some n) None i h = absurd (none_some None i refl h)
+digits (Some n) (Some r) i h = (n, r, refl, refl, cc)
 
-  below_no : (n : ℕ) → 1 ≤ n → c n ≡ false → below c (n + 1) ≡ below c n
-  below_no n h f = next n h ∙ ap (λ (b : Bool). below c n ++ cond b (n ∷ []) []) f ∙ append_none (below c n)
-    where
-      append_none : (xs : List ℕ) → xs ++ [] ≡ xs
-      append_none [] = refl
-      append_none (x ∷ xs) = ap (λ (zs : List ℕ). x ∷ zs) (append_none xs)
+digit_some : (o p : Option ℕ) → (o ≡ None → ⊥) → (p ≡ None → ⊥) → digit o p ≡ None → ⊥
+digit_some None p ho hp h = ho refl
+digit_some (Some n) None ho hp h = hp refl
+digit_some (Some n) (Some r) ho hp h = none_some (Some (n * 8 + r)) (n * 8 + r) h refl
 
-  long_yes : (n : ℕ) → 1 ≤ n → c n ≡ true → length (below c (n + 1)) ≡ length (below c n) + 1
-  long_yes n h t =
-      let e : n + 1 - 1 ≡ n - 1 + 1 = omega arith in
-      ap (λ (m : ℕ). length (filter c (range_with_len 1 m))) e ∙ kept_yes c n (n - 1) (omega arith) t
+module _ (cues : List Bool) where
+  pub rank_low : (n r : ℕ) → rank_in cues n ≡ Some r → r < length (among (marked cues))
+  rank_low n r h = (position-Some (λ m. eqb m n) (among (marked cues)) r 0 h).0
 
-  long_more : (n : ℕ) → 1 ≤ n → length (below c n) ≤ length (below c (n + 1))
-  long_more n h =
-      elim (cases_Bool (c n)) [
-        | inl t ↦ omega (arith, long_yes n h t)
-        | inr f ↦ omega (arith, ap length (below_no n h f))
-      ]
+  rank_at : (n r : ℕ) → rank_in cues n ≡ Some r → get_or (among (marked cues)) r 0 ≡ n
+  rank_at n r h = eqb-true (get_or (among (marked cues)) r 0) n (position-Some (λ m. eqb m n) (among (marked cues)) r 0 h).1
 
-  long_after : (a d b : ℕ) → 1 ≤ a → a + d ≡ b → length (below c a) ≤ length (below c b)
-  long_after a zero b h e = omega (arith, ap (λ (m : ℕ). length (below c m)) (let q : a ≡ b = omega arith in q))
-  long_after a (suc d) b h e =
-      let q : a + d + 1 ≡ b = omega arith in
-      omega (arith, long_after a d (a + d) h refl, long_more (a + d) (omega arith), ap (λ (m : ℕ). length (below c m)) q)
+  -- members have ranks
+  rank_some : (n : ℕ) → marked cues n ≡ true → rank_in cues n ≡ None → ⊥
+  rank_some n m h =
+      let cue = marked_cue cues n m in
+      let us = among (marked cues) in
+      let at = position_or_len (λ k. eqb k n) us in
+      let place : at < length us = has_place n us (stands_has n us (mem_among (marked cues) n (cue_low n cue) (cue_high n cue) m)) in
+      none_some (rank_in cues n) at h (cond-true (ltb at (length us)) (Some at) None (lt-ltb at (length us) place))
 
-  below_all : (n : ℕ) → n ≡ 65 → below c n ≡ among c
-  unfolding among
-  below_all n e = ap (λ (m : ℕ). filter c (range_with_len 1 (m - 1))) e
+  pub pair_some : (a b : ℕ) → marked cues a ≡ true → marked cues b ≡ true → pair_in cues a b ≡ None → ⊥
+  pair_some a b ma mb = digit_some (rank_in cues a) (rank_in cues b) (rank_some a ma) (rank_some b mb)
 
-  rank_less : (a b : ℕ) → 1 ≤ a → a < b → c a ≡ true → length (below c a) < length (below c b)
-  rank_less a b h l t =
-      omega (arith, long_yes a h t, long_after (a + 1) (b - (a + 1)) b (omega arith) (omega arith))
+  pub triple_some : (j r n : ℕ) → marked cues j ≡ true → marked cues r ≡ true → marked cues n ≡ true → triple_in cues j r n ≡ None → ⊥
+  triple_some j r n mj mr mn = digit_some (pair_in cues j r) (rank_in cues n) (pair_some j r mj mr) (rank_some n mn)
 
-  -- a table of ranks tells eight cues apart
-  module _ (cue : (n : ℕ) → c n ≡ true → is_cue n ≡ true) (few : length (among c) ≤ 8) (ranks : List ℕ) (is : (n : ℕ) → 1 ≤ n → n ≤ 64 → get_or ranks (n - 1) 0 ≡ length (below c n)) where
-    small : (n : ℕ) → c n ≡ true → length (below c n) < 8
-    small n t =
-        let k = cue n t in
-        let l = cue_low n k in
-        let h = cue_high n k in
-        let all : length (below c 65) ≡ length (among c) = ap length (below_all 65 refl) in
-        omega (arith, rank_less n 65 l (omega arith) t, all, few)
+  -- and different ones have different ranks
+  rank_same : (a b r : ℕ) → rank_in cues a ≡ Some r → rank_in cues b ≡ Some r → a ≡ b
+  rank_same a b r ha hb = sym (rank_at a r ha) ∙ rank_at b r hb
 
-    rank_is : (n : ℕ) → c n ≡ true → rank_in ranks n ≡ length (below c n)
-    rank_is n t =
-        let k = cue n t in
-        cond-true (is_cue n) (get_or ranks (n - 1) 0 % 8) 0 k
-        ∙ ap (λ (m : ℕ). m % 8) (is n (cue_low n k) (cue_high n k))
-        ∙ mod-eq_of_lt (small n t)
+  module _ (few : length (among (marked cues)) ≤ 8) where
+    pub pair_same : (x y a b i : ℕ) → pair_in cues x y ≡ Some i → pair_in cues a b ≡ Some i → (x ≡ a) × (y ≡ b)
+    pair_same x y a b i hx ha =
+        let p = digits (rank_in cues x) (rank_in cues y) i hx in
+        let q = digits (rank_in cues a) (rank_in cues b) i ha in
+        let lp = rank_low y p.1 p.3 in
+        let lq = rank_low b q.1 q.3 in
+        let first : p.0 ≡ q.0 = omega (arith, few, lp, lq, p.4, q.4) in
+        let second : p.1 ≡ q.1 = omega (arith, few, lp, lq, p.4, q.4) in
+        (rank_same x a q.0 (p.2 ∙ ap (λ (n : ℕ). Some n) first) q.2, rank_same y b q.1 (p.3 ∙ ap (λ (n : ℕ). Some n) second) q.3)
 
-    ranked : Ranked c ranks
-    ranked a b ca cb e =
-        let same : length (below c a) ≡ length (below c b) = sym (rank_is a ca) ∙ e ∙ rank_is b cb in
-        elim (cases_lt a b) [
-          | inl l ↦ absurd (omega (arith, rank_less a b (cue_low a (cue a ca)) l ca, same))
-          | inr h ↦ elim (cases_lt b a) [
-            | inl l ↦ absurd (omega (arith, rank_less b a (cue_low b (cue b cb)) l cb, same))
-            | inr g ↦ omega arith
-          ]
-        ]
+    pub triple_same : (x y z j r n i : ℕ) → triple_in cues x y z ≡ Some i → triple_in cues j r n ≡ Some i → (x ≡ j) × (y ≡ r) × (z ≡ n)
+    triple_same x y z j r n i hx hj =
+        let p = digits (pair_in cues x y) (rank_in cues z) i hx in
+        let q = digits (pair_in cues j r) (rank_in cues n) i hj in
+        let lp = rank_low z p.1 p.3 in
+        let lq = rank_low n q.1 q.3 in
+        let first : p.0 ≡ q.0 = omega (arith, few, lp, lq, p.4, q.4) in
+        let second : p.1 ≡ q.1 = omega (arith, few, lp, lq, p.4, q.4) in
+        let pair = pair_same x y j r q.0 (p.2 ∙ ap (λ (m : ℕ). Some m) first) q.2 in
+        (pair.0, pair.1, rank_same z n q.1 (p.3 ∙ ap (λ (m : ℕ). Some m) second) q.3)
 
--- the numbers below n have been looked at
-pub record Counted (c : ℕ → Bool) (n : ℕ) (numbers ranks : List ℕ) (count : ℕ) : Type 0 where
-  pub eight : length numbers ≡ 8
-  pub long : length ranks ≡ 64
-  pub many : count ≡ length (below c n)
-  pub less : count < n
-  pub front : count ≤ 8 → take count numbers ≡ below c n
-  pub told : (k : ℕ) → 1 ≤ k → k < n → get_or ranks (k - 1) 0 ≡ length (below c k)
+some_eq : (m n : ℕ) → ◌≡◌ {A = Option ℕ} (Some m) (Some n) → m ≡ n
+some_eq m n h = cc
 
-pub counted_none : (c : ℕ → Bool) → Counted c 1 (replicate 8 0) (replicate 64 0) 0
-counted_none c =
-    record { eight = refl; long = refl; many = refl; less = omega arith; front = λ h. refl; told = λ k l h. absurd (omega arith) }
+-- one more cell is set: what it says here is true exactly of that cell
+pub told_set : (cells : List Bool) (at : ℕ) (o : Option ℕ) (here : Bool) → at < length cells → (here ≡ true → o ≡ Some at) → (o ≡ Some at → here ≡ true) → told (set cells at true) o ≡ (told cells o || here)
+told_set cells at None here within same back =
+    elim (cases_Bool here) [ inl t ↦ absurd (none_some None at refl (same t)) | inr f ↦ sym f ]
+told_set cells at (Some cell) here within same back =
+    elim (cases_Bool here) [
+      | inl t ↦
+          ap (λ (n : ℕ). get_or (set cells at true) n false) (some_eq cell at (same t))
+          ∙ get_or-set_same cells at true false within
+          ∙ sym (or_right (get_or cells cell false) here t)
+      | inr f ↦
+          get_or-set_other cells at cell true false (λ z. both_ways here f (back (ap (λ (n : ℕ). Some n) z)))
+          ∙ sym (or-false (get_or cells cell false))
+          ∙ ap (λ (x : Bool). get_or cells cell false || x) (sym f)
+    ]
 
-module _ (c : ℕ → Bool) (n : ℕ) (numbers ranks : List ℕ) (count : ℕ) (low : 1 ≤ n) (high : n ≤ 64) (inv : Counted c n numbers ranks count) where
-  ranks_more : (k : ℕ) → 1 ≤ k → k < n + 1 → get_or (set ranks (n - 1) count) (k - 1) 0 ≡ length (below c k)
-  ranks_more k l h =
-      elim (cases_eq k n) [
-        | inl e ↦
-            ap (λ (m : ℕ). get_or (set ranks (n - 1) count) (m - 1) 0) e
-            ∙ get_or-set_same ranks (n - 1) count 0 (omega (arith, inv.long))
-            ∙ inv.many
-            ∙ ap (λ (m : ℕ). length (below c m)) (sym e)
-        | inr ne ↦ get_or-set_other ranks (n - 1) (k - 1) count 0 (λ z. ne (omega arith)) ∙ inv.told k l (omega arith)
-      ]
-
-  pub counted_no : c n ≡ false → Counted c (n + 1) numbers (set ranks (n - 1) count) count
-  counted_no f =
-      record {
-        eight = inv.eight;
-        long = length-set ranks (n - 1) count ∙ inv.long;
-        many = inv.many ∙ sym (ap length (below_no c n low f));
-        less = omega (arith, inv.less);
-        front = λ h. inv.front h ∙ sym (below_no c n low f);
-        told = ranks_more;
-      }
-
-  pub counted_yes : c n ≡ true → count < 8 → Counted c (n + 1) (set numbers count n) (set ranks (n - 1) count) (count + 1)
-  counted_yes t few =
-      record {
-        eight = length-set numbers count n ∙ inv.eight;
-        long = length-set ranks (n - 1) count ∙ inv.long;
-        many = omega (arith, inv.many, long_yes c n low t);
-        less = omega (arith, inv.less);
-        front = λ h. take_more_set numbers count n (omega (arith, inv.eight)) ∙ ap (λ (zs : List ℕ). zs ++ n ∷ []) (inv.front (omega arith)) ∙ sym (below_yes c n low t);
-        told = ranks_more;
-      }
-
-  pub counted_past : c n ≡ true → 8 ≤ count → Counted c (n + 1) numbers (set ranks (n - 1) count) (count + 1)
-  counted_past t many =
-      record {
-        eight = inv.eight;
-        long = length-set ranks (n - 1) count ∙ inv.long;
-        many = omega (arith, inv.many, long_yes c n low t);
-        less = omega (arith, inv.less);
-        front = λ h. absurd (omega arith);
-        told = ranks_more;
-      }
-
-pub counted_all : (c : ℕ → Bool) → ((n : ℕ) → c n ≡ true → is_cue n ≡ true) → (n : ℕ) (numbers ranks : List ℕ) (count : ℕ) → n ≡ 65 → Counted c n numbers ranks count → Lists c (record { numbers = numbers; count = count; ranks = ranks })
-counted_all c cue n numbers ranks count e inv =
-    let all : length (below c n) ≡ length (among c) = ap length (below_all c n e) in
-    record {
-      count = inv.many ∙ all;
-      numbers = λ h. inv.front h ∙ below_all c n e;
-      ranks = λ h. ranked c cue (omega (arith, inv.many, all)) ranks (λ k l u. inv.told k l (omega arith));
-    }
+pub told_none : (long : ℕ) (o : Option ℕ) → told (replicate long false) o ≡ false
+told_none long None = refl
+told_none long (Some at) = get_or-replicate_same long at
+  where
+    get_or-replicate_same : (n k : ℕ) → get_or (replicate n false) k false ≡ false
+    get_or-replicate_same zero k = refl
+    get_or-replicate_same (suc n) zero = refl
+    get_or-replicate_same (suc n) (suc k) = get_or-replicate_same n k

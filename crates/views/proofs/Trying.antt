@@ -1,22 +1,27 @@
 -- The first order of the cues left, found by trying each of them next. Assumes nothing.
-use Rattle.std.proofs.Common.{◌≡◌, ℕ, zero, suc, ◌+◌, ◌-◌, ◌<◌, ◌≤◌, Bool, true, false, not, ◌&&◌, ◌||◌, eqb, List, [], ◌∷◌, ◌++◌, length, get_or, take, drop, set, Some, None, filter, Option, sym, refl, ap, ◌∙◌, inl, inr, arith}
+use Rattle.std.proofs.Common.{◌≡◌, ℕ, zero, suc, ◌+◌, ◌-◌, ◌<◌, ◌≤◌, Bool, true, false, not, ◌&&◌, ◌||◌, eqb, is_some, List, [], ◌∷◌, length, get_or, take, drop, set, Some, None, filter, Option, sym, refl, ap, ◌∙◌, subst, inl, inr, arith}
 use Rattle.std.specs.Option.{option_map}
 use Rattle.std.specs.List.{AllByRecursion as All}
-use Rattle.std.proofs.lemmas.List.{at_drop_more, at_drop_all, nil_from_length}
+use Rattle.std.proofs.ByRecursion.{All-weaker, All-get_or}
+use Rattle.std.proofs.lemmas.List.{at_drop_more, at_drop_all}
 use Rattle.std.proofs.lemmas.Bool.{cond-true, cond-false, both_ways, cases_Bool, eq-eqb, eqb-true, not_from_false, or_left, or_right}
 use Rattle.lists.specs.Lists.{some, or_else, has}
 use Rattle.orders.specs.Least.{Distinct}
 use Rattle.orders.specs.Orders.{without, first_where, orders}
+use Rattle.orders.proofs.Among.{among_all}
 use Rattle.orders.proofs.Extending.{distinct_kept, length_without}
+use Rattle.orders.proofs.Leasts.{distinct_among}
 use Rattle.history.specs.Entries.{is_cue}
 use Rattle.history.specs.Marked.{marked}
+use Rattle.history.proofs.Committed.{is_cue_lem}
 use Rattle.equivalence.specs.Extending.{may_come, fits_after}
 use Rattle.equivalence.proofs.Serial.{has_stands}
 use Rattle.equivalence.proofs.Extended.{try_one, try_all, first_by_branches}
 use Rattle.views.specs.declared.constraints.Constraints.{Constraints}
 use Rattle.views.specs.Tables.{ahead_in, apart_in}
-use Rattle.views.specs.Shown.{placed_of, left_of, rest_of, is_found, laid_in}
-use Rattle.views.proofs.Leaving.{left_set, placed_set}
+use Rattle.views.specs.Answer.{filled}
+use Rattle.views.specs.Shown.{members_of, placed_of, left_of, rest_of}
+use Rattle.views.proofs.Leaving.{left_in, left_set, placed_set}
 
 -- an order fits by what was seen, in whatever order it was
 fits_seen : (ahead : ℕ → ℕ → Bool) (apart : ℕ → ℕ → ℕ → Bool) (o seen others : List ℕ) → ((test : ℕ → Bool) → some test seen ≡ some test others) → fits_after ahead apart seen o ≡ fits_after ahead apart others o
@@ -46,115 +51,111 @@ has_at [] k h = absurd (omega arith)
 has_at (y ∷ ys) zero h = or_left (eqb y y) (has y ys) (eq-eqb y y refl)
 has_at (y ∷ ys) (suc k) h = or_right (eqb y (get_or ys k 0)) (has (get_or ys k 0) ys) (has_at ys k (omega arith))
 
-pub found_none : (rest : Option (List ℕ)) → is_found rest ≡ false → rest ≡ None
+pub found_none : (rest : Option (List ℕ)) → is_some rest ≡ false → rest ≡ None
 found_none None h = refl
 found_none (Some o) h = absurd (both_ways true h refl)
 
-module _ (t : Constraints) (cues : List ℕ) (table : List Bool) where
-  abbrev Tried : List ℕ → Option (List ℕ)
-  Tried xs = try_all (ahead_in t) (apart_in t) (placed_of cues table) (left_of cues table) (left_of xs table)
+-- the members
+pub members_distinct : (t : Constraints) → Distinct (members_of t)
+members_distinct t = distinct_among (marked t.members.cues)
 
-  -- with none left, the order is whole
-  pub rest_none : length (left_of cues table) ≡ 0 → rest_of t cues table ≡ Some []
-  rest_none e =
-      ap (λ (us : List ℕ). first_where (fits_after (ahead_in t) (apart_in t) (placed_of cues table)) (orders us)) (nil_from_length (left_of cues table) e)
+pub members_cues : (t : Constraints) → All (λ n. is_cue n ≡ true) (members_of t)
+members_cues t =
+    All-weaker (λ m. (1 ≤ m) × (m ≤ 64) × (marked t.members.cues m ≡ true)) (λ m. is_cue m ≡ true) (λ m k. is_cue_lem m k.0 k.1) (members_of t) (among_all (marked t.members.cues))
 
-  pub rest_tried : Distinct cues → 0 < length (left_of cues table) → Tried cues ≡ rest_of t cues table
-  rest_tried d h =
-      sym (first_by_branches (ahead_in t) (apart_in t) (placed_of cues table) (left_of cues table) (distinct_kept (λ n. not (marked table n)) cues d)
-      (λ e. omega (arith, h, ap length e)))
+module _ (t : Constraints) (table : List Bool) where
+  -- the first order that starts with one of the cues xs
+  abbrev pub Tried : List ℕ → Option (List ℕ)
+  Tried xs = try_all (ahead_in t) (apart_in t) (placed_of t table) (left_of t table) (left_in xs table)
 
-  -- the cue with index k is next
-  module _ (k : ℕ) (h : k < length cues) where
-    abbrev One : Option (List ℕ)
-    One = try_one (ahead_in t) (apart_in t) (placed_of cues table) (left_of cues table) (get_or cues k 0)
+  module _ (cues : List ℕ) (is : cues ≡ members_of t) where
+    pub rest_tried : 0 < length (left_of t table) → Tried cues ≡ rest_of t table
+    rest_tried h =
+        ap Tried is
+        ∙ sym (first_by_branches (ahead_in t) (apart_in t) (placed_of t table) (left_of t table) (distinct_kept (λ n. not (marked table n)) (members_of t) (members_distinct t))
+        (λ e. omega (arith, h, ap length e)))
 
-    abbrev Next : List Bool
-    Next = set table (get_or cues k 0 - 1) true
+    -- the cue with index k is next
+    module _ (k : ℕ) (h : k < length cues) where
+      abbrev x : ℕ
+      x = get_or cues k 0
 
-    placed_tried : marked table (get_or cues k 0) ≡ true → Tried (drop k cues) ≡ Tried (drop (k + 1) cues)
-    placed_tried m = at_drop_more Tried cues k 0 h ∙ step
-      where
-        step : Tried (get_or cues k 0 ∷ drop (k + 1) cues) ≡ Tried (drop (k + 1) cues)
-        step = rw m refl
+      abbrev One : Option (List ℕ)
+      One = try_one (ahead_in t) (apart_in t) (placed_of t table) (left_of t table) x
 
-    left_tried : marked table (get_or cues k 0) ≡ false → Tried (drop k cues) ≡ or_else One (Tried (drop (k + 1) cues))
-    left_tried n = at_drop_more Tried cues k 0 h ∙ step
-      where
-        step : Tried (get_or cues k 0 ∷ drop (k + 1) cues) ≡ or_else One (Tried (drop (k + 1) cues))
-        step = rw n refl
+      abbrev Next : List Bool
+      Next = set table (x - 1) true
 
-    pub past_placed : marked table (get_or cues k 0) ≡ true → Tried (drop k cues) ≡ rest_of t cues table → Tried (drop (k + 1) cues) ≡ rest_of t cues table
-    past_placed m inv = sym (placed_tried m) ∙ inv
+      abbrev May : Bool
+      May = may_come (ahead_in t) (apart_in t) (placed_of t table) x (without x (left_of t table))
 
-    abbrev May : Bool
-    May = may_come (ahead_in t) (apart_in t) (placed_of cues table) (get_or cues k 0) (without (get_or cues k 0) (left_of cues table))
+      -- the first order of the others after it
+      abbrev Others : Option (List ℕ)
+      Others = first_where (fits_after (ahead_in t) (apart_in t) (x ∷ placed_of t table)) (orders (without x (left_of t table)))
 
-    pub past_barred : marked table (get_or cues k 0) ≡ false → May ≡ false → Tried (drop k cues) ≡ rest_of t cues table → Tried (drop (k + 1) cues) ≡ rest_of t cues table
-    past_barred n f inv =
-        sym (left_tried n ∙ ap (λ (o : Option (List ℕ)). or_else o (Tried (drop (k + 1) cues))) (cond-false May (option_map (λ o. get_or cues k 0 ∷ o) (first_where (fits_after (ahead_in t) (apart_in t) (get_or cues k 0 ∷ placed_of cues table)) (orders (without (get_or cues k 0) (left_of cues table))))) None f)) ∙ inv
+      pub next_cue : is_cue x ≡ true
+      next_cue = All-get_or (λ n. is_cue n ≡ true) cues k 0 h (subst (All (λ n. is_cue n ≡ true)) (sym is) (members_cues t))
 
-    module _ (long : length table ≡ 64) (all : All (λ n. is_cue n ≡ true) cues) (cue : is_cue (get_or cues k 0) ≡ true) (there : has (get_or cues k 0) cues ≡ true) where
-      rest_next : rest_of t cues Next ≡ first_where (fits_after (ahead_in t) (apart_in t) (get_or cues k 0 ∷ placed_of cues table)) (orders (without (get_or cues k 0) (left_of cues table)))
-      rest_next =
-          first_alike (fits_after (ahead_in t) (apart_in t) (placed_of cues Next)) (fits_after (ahead_in t) (apart_in t) (get_or cues k 0 ∷ placed_of cues table))
-          (λ o. fits_seen (ahead_in t) (apart_in t) o (placed_of cues Next) (get_or cues k 0 ∷ placed_of cues table) (placed_set table long (get_or cues k 0) cue cues all there)) (orders (left_of cues Next))
-          ∙ ap (λ (us : List ℕ). first_where (fits_after (ahead_in t) (apart_in t) (get_or cues k 0 ∷ placed_of cues table)) (orders us)) (left_set table long (get_or cues k 0) cue cues all)
+      there : has x (members_of t) ≡ true
+      there = subst (λ (us : List ℕ). has x us ≡ true) is (has_at cues k h)
 
-      -- one less is left
-      pub left_less : Distinct cues → marked table (get_or cues k 0) ≡ false → length (left_of cues table) ≡ suc (length (left_of cues Next))
-      left_less d n =
-          length_without (get_or cues k 0) (left_of cues table) (distinct_kept (λ n. not (marked table n)) cues d)
-          (has_stands (get_or cues k 0) (left_of cues table) (has_kept (λ n. not (marked table n)) (get_or cues k 0) cues there (not_from_false (marked table (get_or cues k 0)) n)))
-          ∙ ap (λ (us : List ℕ). suc (length us)) (sym (left_set table long (get_or cues k 0) cue cues all))
-
-      one_next : May ≡ true → One ≡ option_map (λ o. get_or cues k 0 ∷ o) (rest_of t cues Next)
-      one_next y =
-          cond-true May (option_map (λ o. get_or cues k 0 ∷ o) (first_where (fits_after (ahead_in t) (apart_in t) (get_or cues k 0 ∷ placed_of cues table)) (orders (without (get_or cues k 0) (left_of cues table))))) None y
-          ∙ ap (option_map (λ o. get_or cues k 0 ∷ o)) (sym rest_next)
-
-      pub past_tried : marked table (get_or cues k 0) ≡ false → May ≡ true → is_found (rest_of t cues Next) ≡ false → Tried (drop k cues) ≡ rest_of t cues table → Tried (drop (k + 1) cues) ≡ rest_of t cues table
-      past_tried n y f inv =
-          sym (left_tried n ∙ ap (λ (o : Option (List ℕ)). or_else o (Tried (drop (k + 1) cues))) (one_next y ∙ ap (option_map (λ o. get_or cues k 0 ∷ o)) (found_none (rest_of t cues Next) f))) ∙ inv
-
-      pub rest_found : marked table (get_or cues k 0) ≡ false → May ≡ true → is_found (rest_of t cues Next) ≡ true → Tried (drop k cues) ≡ rest_of t cues table → rest_of t cues table ≡ option_map (λ o. get_or cues k 0 ∷ o) (rest_of t cues Next)
-      rest_found n y f inv =
-          sym inv ∙ left_tried n ∙ ap (λ (o : Option (List ℕ)). or_else o (Tried (drop (k + 1) cues))) (one_next y) ∙ kept (rest_of t cues Next) f
+      left_tried : marked table x ≡ false → Tried (drop k cues) ≡ or_else One (Tried (drop (k + 1) cues))
+      left_tried n = at_drop_more Tried cues k 0 h ∙ step
         where
-          kept : (rest : Option (List ℕ)) → is_found rest ≡ true → or_else (option_map (λ o. get_or cues k 0 ∷ o) rest) (Tried (drop (k + 1) cues)) ≡ option_map (λ o. get_or cues k 0 ∷ o) rest
-          kept None h = absurd (both_ways false refl h)
-          kept (Some o) h = refl
+          step : Tried (x ∷ drop (k + 1) cues) ≡ or_else One (Tried (drop (k + 1) cues))
+          step = rw n refl
 
-  pub rest_end : (k : ℕ) → length cues ≤ k → Tried (drop k cues) ≡ rest_of t cues table → rest_of t cues table ≡ None
-  rest_end k h inv = sym inv ∙ at_drop_all Tried cues k h
+      pub past_placed : marked table x ≡ true → Tried (drop k cues) ≡ rest_of t table → Tried (drop (k + 1) cues) ≡ rest_of t table
+      past_placed m inv = sym step ∙ sym (at_drop_more Tried cues k 0 h) ∙ inv
+        where
+          step : Tried (x ∷ drop (k + 1) cues) ≡ Tried (drop (k + 1) cues)
+          step = rw m refl
 
--- what the list holds
-set_front : (at : ℕ) (list more : List ℕ) (x : ℕ) → at < length list → set (take (suc at) list ++ more) at x ≡ take at list ++ (x ∷ more)
-set_front at [] more x h = absurd (omega arith)
-set_front zero (l ∷ list) more x h = refl
-set_front (suc at) (l ∷ list) more x h = ap (λ (zs : List ℕ). l ∷ zs) (set_front at list more x (omega arith))
+      pub past_barred : marked table x ≡ false → May ≡ false → Tried (drop k cues) ≡ rest_of t table → Tried (drop (k + 1) cues) ≡ rest_of t table
+      past_barred n f inv =
+          sym (left_tried n ∙ ap (λ (o : Option (List ℕ)). or_else o (Tried (drop (k + 1) cues))) (cond-false May (option_map (λ o. x ∷ o) Others) None f)) ∙ inv
 
-pub laid_none : (at : ℕ) (rest : Option (List ℕ)) (list : List ℕ) → is_found rest ≡ false → laid_in at rest list ≡ list
-laid_none at None list h = refl
-laid_none at (Some o) list h = absurd (both_ways true h refl)
+      module _ (long : length table ≡ 64) (n : marked table x ≡ false) where
+        rest_next : rest_of t Next ≡ Others
+        rest_next =
+            first_alike (fits_after (ahead_in t) (apart_in t) (placed_of t Next)) (fits_after (ahead_in t) (apart_in t) (x ∷ placed_of t table))
+            (λ o. fits_seen (ahead_in t) (apart_in t) o (placed_of t Next) (x ∷ placed_of t table) (placed_set table long x next_cue (members_of t) (members_cues t) there)) (orders (left_of t Next))
+            ∙ ap (λ (us : List ℕ). first_where (fits_after (ahead_in t) (apart_in t) (x ∷ placed_of t table)) (orders us)) (left_set table long x next_cue (members_of t) (members_cues t))
 
-pub laid_whole : (at : ℕ) (list : List ℕ) → laid_in at (Some []) list ≡ list
-laid_whole at list = ap (λ (n : ℕ). take at list ++ drop n list) (omega arith) ∙ join at list
-  where
-    join : (at : ℕ) (list : List ℕ) → take at list ++ drop at list ≡ list
-    join zero list = refl
-    join (suc at) [] = refl
-    join (suc at) (l ∷ list) = ap (λ (zs : List ℕ). l ∷ zs) (join at list)
+        -- one less is left
+        pub left_less : length (left_of t table) ≡ suc (length (left_of t Next))
+        left_less =
+            length_without x (left_of t table) (distinct_kept (λ m. not (marked table m)) (members_of t) (members_distinct t))
+            (has_stands x (left_of t table) (has_kept (λ m. not (marked table m)) x (members_of t) there (not_from_false (marked table x) n)))
+            ∙ ap (λ (us : List ℕ). suc (length us)) (sym (left_set table long x next_cue (members_of t) (members_cues t)))
 
-pub laid_more : (at x : ℕ) (rest : Option (List ℕ)) (list : List ℕ) → is_found rest ≡ true → at < length list → set (laid_in (at + 1) rest list) at x ≡ laid_in at (option_map (λ o. x ∷ o) rest) list
-laid_more at x None list h room = absurd (both_ways false refl h)
-laid_more at x (Some o) list h room =
-    let one : at + 1 ≡ suc at = omega arith in
-    let far : at + 1 + length o ≡ at + length (x ∷ o) = omega arith in
-    ap (λ (n : ℕ). set (take n list ++ (o ++ drop (at + 1 + length o) list)) at x) one
-    ∙ ap (λ (n : ℕ). set (take (suc at) list ++ (o ++ drop n list)) at x) far
-    ∙ set_front at list (o ++ drop (at + length (x ∷ o)) list) x room
+        one_next : May ≡ true → One ≡ option_map (λ o. x ∷ o) (rest_of t Next)
+        one_next y = cond-true May (option_map (λ o. x ∷ o) Others) None y ∙ ap (option_map (λ o. x ∷ o)) (sym rest_next)
 
-pub found_more : (x : ℕ) (rest : Option (List ℕ)) → is_found (option_map (λ o. x ∷ o) rest) ≡ is_found rest
+        pub past_tried : May ≡ true → is_some (rest_of t Next) ≡ false → Tried (drop k cues) ≡ rest_of t table → Tried (drop (k + 1) cues) ≡ rest_of t table
+        past_tried y f inv =
+            sym (left_tried n ∙ ap (λ (o : Option (List ℕ)). or_else o (Tried (drop (k + 1) cues))) (one_next y ∙ ap (option_map (λ o. x ∷ o)) (found_none (rest_of t Next) f))) ∙ inv
+
+        pub rest_found : May ≡ true → is_some (rest_of t Next) ≡ true → Tried (drop k cues) ≡ rest_of t table → rest_of t table ≡ option_map (λ o. x ∷ o) (rest_of t Next)
+        rest_found y f inv =
+            sym inv ∙ left_tried n ∙ ap (λ (o : Option (List ℕ)). or_else o (Tried (drop (k + 1) cues))) (one_next y) ∙ kept (rest_of t Next) f
+          where
+            kept : (rest : Option (List ℕ)) → is_some rest ≡ true → or_else (option_map (λ o. x ∷ o) rest) (Tried (drop (k + 1) cues)) ≡ option_map (λ o. x ∷ o) rest
+            kept None h = absurd (both_ways false refl h)
+            kept (Some o) h = refl
+
+    pub rest_end : (k : ℕ) → length cues ≤ k → Tried (drop k cues) ≡ rest_of t table → rest_of t table ≡ None
+    rest_end k h inv = sym inv ∙ at_drop_all Tried cues k h
+
+pub found_more : (x : ℕ) (rest : Option (List ℕ)) → is_some (option_map (λ o. x ∷ o) rest) ≡ is_some rest
 found_more x None = refl
 found_more x (Some o) = refl
+
+-- what the list holds
+pub filled_none : (rest : Option (List ℕ)) (list : List ℕ) → is_some rest ≡ false → filled rest list ≡ list
+filled_none None list h = refl
+filled_none (Some o) list h = absurd (both_ways true h refl)
+
+pub filled_more : (x : ℕ) (rest : Option (List ℕ)) (cell : ℕ) (list : List ℕ) → is_some rest ≡ true → x ∷ filled rest list ≡ filled (option_map (λ o. x ∷ o) rest) (cell ∷ list)
+filled_more x None cell list h = absurd (both_ways false refl h)
+filled_more x (Some o) cell list h = refl

@@ -1,17 +1,16 @@
 -- What one more note leaves in the tables. Assumes nothing.
-use Rattle.std.specs.Prelude.{◌≡◌, ℕ, Bool, true, false, not, ◌&&◌, ◌||◌, List, ◌==◌}
+use Rattle.std.specs.Prelude.{◌≡◌, ℕ, Bool, true, false, not, ◌&&◌, ◌||◌, List, Some, None, Option, ◌==◌}
 use Rattle.history.specs.declared.Entry.{Entry}
 use Rattle.history.specs.Marked.{marked}
 use Rattle.equivalence.specs.Constraints.{last_writer, read_hides, read_ahead, read_apart, write_ahead}
 use Rattle.views.specs.declared.constraints.Constraints.{Constraints}
-use Rattle.views.specs.Tables.{Ranked, ahead_in, apart_in}
+use Rattle.views.specs.Tables.{ahead_in, apart_in}
 
--- the tables t' have what t has and, of the cues in c, what the three tests say besides
-pub record Notes (c : ℕ → Bool) (hide : Bool) (before : ℕ → ℕ → Bool) (between : ℕ → ℕ → ℕ → Bool) (t t' : Constraints) : Type 0 where
-  pub ranks : t'.ranks ≡ t.ranks
-  pub hidden : t'.hidden ≡ (t.hidden || hide)
-  pub ahead : (a b : ℕ) → c a ≡ true → c b ≡ true → ahead_in t' a b ≡ (ahead_in t a b || before a b)
-  pub apart : (j r n : ℕ) → c j ≡ true → c r ≡ true → c n ≡ true → apart_in t' j r n ≡ (apart_in t j r n || between j r n)
+-- the tables t' have what t has, and what the two tests say besides
+pub record Notes (before : ℕ → ℕ → Bool) (between : ℕ → ℕ → ℕ → Bool) (t t' : Constraints) : Type 0 where
+  pub members : t'.members ≡ t.members
+  pub ahead : (a b : ℕ) → ahead_in t' a b ≡ (ahead_in t a b || before a b)
+  pub apart : (j r n : ℕ) → apart_in t' j r n ≡ (apart_in t j r n || between j r n)
 
 abbrev pub none_ahead : ℕ → ℕ → Bool
 none_ahead a b = false
@@ -19,31 +18,48 @@ none_ahead a b = false
 abbrev pub none_apart : ℕ → ℕ → ℕ → Bool
 none_apart j r n = false
 
--- the cues that a table marks are among those in c
-abbrev pub Within : List Bool → (ℕ → Bool) → Type 0
-Within table c = (n : ℕ) → marked table n ≡ true → c n ≡ true
+-- the cue is a member
+abbrev pub Member : Constraints → ℕ → Type 0
+Member t n = marked t.members.cues n ≡ true
+
+-- the cues that a table marks are members
+abbrev pub Within : List Bool → Constraints → Type 0
+Within table t = (n : ℕ) → marked table n ≡ true → Member t n
+
+-- one more pair, and one more three
+abbrev pub PutsAhead : Constraints → Constraints → ℕ → ℕ → Type 0
+PutsAhead t t' a b = Member t a → Member t b → Notes (λ x y. x == a && y == b) none_apart t t'
+
+abbrev pub PutsApart : Constraints → Constraints → ℕ → ℕ → ℕ → Type 0
+PutsApart t t' j r n = Member t j → Member t r → Member t n → Notes none_ahead (λ x y z. (x == j && y == r) && z == n) t t'
 
 -- the reader comes before each other writer
 abbrev pub first : ℕ → List Bool → ℕ → ℕ → Bool
 first reader writers a b = a == reader && (not (b == reader) && marked writers b)
 
 abbrev pub PutsFirst : Constraints → Constraints → ℕ → List Bool → Type 0
-PutsFirst t t' reader writers = (c : ℕ → Bool) → Ranked c t.ranks → c reader ≡ true → Within writers c → Notes c false (first reader writers) none_apart t t'
+PutsFirst t t' reader writers = Member t reader → Within writers t → Notes (first reader writers) none_apart t t'
 
 -- no other writer stands between the source and the reader
 abbrev pub split : ℕ → ℕ → List Bool → List Bool → ℕ → ℕ → ℕ → Bool
 split source reader earlier later j r n = (j == source && r == reader) && ((not (n == source) && not (n == reader)) && (marked earlier n || marked later n))
 
 abbrev pub PutsBetween : Constraints → Constraints → ℕ → ℕ → List Bool → List Bool → Type 0
-PutsBetween t t' source reader earlier later = (c : ℕ → Bool) → Ranked c t.ranks → c source ≡ true → c reader ≡ true → Within earlier c → Within later c → Notes c false none_ahead (split source reader earlier later) t t'
+PutsBetween t t' source reader earlier later = Member t source → Member t reader → Within earlier t → Within later t → Notes none_ahead (split source reader earlier later) t t'
 
-module _ {K : Type 0} (alike : K → K → Bool) (c : ℕ → Bool) (t t' : Constraints) where
-  -- what a read of k by cue i asks
-  abbrev pub AskedRead : List (Entry K) → ℕ → K → List (Entry K) → Type 0
-  AskedRead before i k after =
-      let source = last_writer alike c k before in
-      Notes c (read_hides alike c k i before after source) (read_ahead alike c k i after source) (read_apart alike c k i before after source) t t'
+module _ {K : Type 0} (alike : K → K → Bool) (t t' : Constraints) where
+  -- what a read of k by cue i asks of the tables, by its source
+  abbrev pub ReadNotes : List (Entry K) → ℕ → K → List (Entry K) → Option ℕ → Type 0
+  ReadNotes before i k after source = Notes (read_ahead alike (marked t.members.cues) k i after source) (read_apart alike (marked t.members.cues) k i before after source) t t'
+
+  -- none where the source is hidden
+  abbrev pub ReadBy : List (Entry K) → ℕ → K → List (Entry K) → Option ℕ → Option (Unit {0}) → Type 0
+  ReadBy before i k after source None = read_hides alike (marked t.members.cues) k i before after source ≡ true
+  ReadBy before i k after source (Some u) = (read_hides alike (marked t.members.cues) k i before after source ≡ false) × ReadNotes before i k after source
+
+  abbrev pub AskedRead : List (Entry K) → ℕ → K → List (Entry K) → Option (Unit {0}) → Type 0
+  AskedRead before i k after o = ReadBy before i k after (last_writer alike (marked t.members.cues) k before) o
 
   -- what a write of k by cue i asks
   abbrev pub AskedWrite : ℕ → K → List (Entry K) → Type 0
-  AskedWrite i k after = Notes c false (write_ahead alike c i (last_writer alike c k after)) none_apart t t'
+  AskedWrite i k after = Notes (write_ahead alike (marked t.members.cues) i (last_writer alike (marked t.members.cues) k after)) none_apart t t'

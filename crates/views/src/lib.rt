@@ -5,8 +5,8 @@ ghost use Rattle.std.specs.Prelude.{◌≡◌};
 ghost use Rattle.views.specs.Answer.{views_answer, views_list};
 
 use constraints::constraints_of;
-use extending::extend;
-use history::{Entry, committed_cues};
+use extending::Placing;
+use history::Entry;
 use items::Item;
 use members::members_of;
 use refusals::Refusal;
@@ -15,36 +15,26 @@ mod constraints;
 mod extending;
 mod members;
 
-// How many committed cues have views.
-const MOST: usize = 8;
-
 // How long the first view-equivalent order of the committed cues is, which stands at the front of `list` then, or none. What such an
 // order must keep is derived from the book once, and orders are extended cue by cue under it.
 pub fn views_of<K: Item>(entries: &[Entry<K>], list: &mut [u32]) -> Result<Option<usize>, Refusal>
     ensures answer { result ≡ views_answer K.Item.alike entries.now list.old }
     ensures list { list.new ≡ views_list K.Item.alike entries.now list.old }
 {
-    let cues = committed_cues(entries);
-    let members = members_of(&cues);
-    if members.count > MOST {
+    let Some(members) = members_of(entries) else {
         return Err(Refusal::ManyCues);
-    }
-    if list.len() < members.count {
+    };
+    let count = members.numbers().len();
+    if list.len() < count {
         return Err(Refusal::ListShort);
     }
-    let constraints = constraints_of(entries, &cues, &members.ranks);
-    if constraints.hidden {
+    let Some(constraints) = constraints_of(entries, members) else {
         return Ok(None);
-    }
-    if extend(
-        &constraints,
-        &members.numbers[0..members.count],
-        &[false; 64],
-        list,
-        0,
-    ) {
-        Ok(Some(members.count))
-    } else {
-        Ok(None)
-    }
+    };
+    let start = Placing {
+        constraints: &constraints,
+        placed: [false; 64],
+    };
+    let found = start.extend(&mut list[..count]);
+    Ok(found.then_some(count))
 }

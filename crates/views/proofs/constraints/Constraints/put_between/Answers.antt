@@ -1,37 +1,35 @@
-use Rattle.std.proofs.Common.{◌≡◌, ◌+◌, not, ◌&&◌, ◌||◌, eqb, length, sym, ap, ◌∙◌, subst}
+use Rattle.std.proofs.Common.{◌≡◌, ◌+◌, not, ◌&&◌, ◌||◌, eqb, sym, subst}
 use Rattle.std.proofs.lemmas.Bool.{and_from, and_left, and_right, eq-eqb, ne_eqb, not_from_true, not_from_false}
 use Rattle.history.specs.Marked.{marked}
 use Rattle.views.specs.declared.constraints.Constraints.{Constraints}
-use Rattle.views.specs.Tables.{with_apart}
+use Rattle.views.specs.Noted.{PutsApart}
 use Rattle.views.proofs.Putting.{BetweenUpto, between_none, between_more, between_past, between_all}
-use Rattle.views.proofs.constraints.put_between.Goals as goal
-use Rattle.views.proofs.constraints.put_between.Goals.{then-n-source+then-n-reader+then-either_has, else-n-source, else-n-source-via-then-n-source+then-n-reader+else-either_has, else-n-source-via-then-n-source+else-n-reader, else-n-source-via-else-n-source}
+use Rattle.views.proofs.constraints.Constraints.put_between.Goals as goal
+use Rattle.views.proofs.constraints.Constraints.put_between.Goals.{then-n-source+then-n-reader+then-either_has, else-n-source, else-n-source-via-then-n-source+then-n-reader+else-either_has, else-n-source-via-then-n-source+else-n-reader, else-n-source-via-else-n-source}
 
 pub loop-n-init : goal.loop-n-init
-loop-n-init c = between_none c.args.t.now c.args.source c.args.reader c.args.earlier.now c.args.later.now
+loop-n-init c = between_none c.args.self.now c.args.source c.args.reader c.args.earlier.now c.args.later.now
 
 pub loop-n-preserved : goal.loop-n-preserved
 loop-n-preserved c =
-    let t = c.args.t.now in
+    let t = c.args.self.now in
     let source = c.args.source in
     let reader = c.args.reader in
     let earlier = c.args.earlier.now in
     let later = c.args.later.now in
     let n = c.loop-n.n in
-    let t' = c.loop-n.t in
+    let t' = c.loop-n.self in
     let apart = not (eqb n source) && not (eqb n reader) in
     let writes = marked earlier n || marked later n in
     elim c.if-n-source.branch [
       | then-n-source+then-n-reader+then-either_has w ↦
-          let is : c.if-n-source.t ≡ with_apart t' source reader n = w.t-is ∙ w.put_apart.ensures.is in
-          subst (BetweenUpto t source reader earlier later (n + 1)) (sym is)
-          (between_more t source reader earlier later n t' c.loop-n.invariant
+          between_more t source reader earlier later n t' c.loop-n.invariant c.if-n-source.self
           (and_from apart writes
           (and_from (not (eqb n source)) (not (eqb n reader)) (not_from_false (eqb n source) (ne_eqb n source w.if-n-source.true)) (not_from_false (eqb n reader) (ne_eqb n reader w.if-n-reader.true)))
           (sym w.if-either_has.ensures))
-          (sym (ap (λ (u : Constraints). length u.apart) w.put_apart.ensures.is) ∙ w.put_apart.ensures.long))
+          (subst (λ (u : Constraints). PutsApart t' u source reader n) (sym w.self-is) w.put_apart.ensures)
       | else-n-source w ↦
-          subst (BetweenUpto t source reader earlier later (n + 1)) (sym w.t-is)
+          subst (BetweenUpto t source reader earlier later (n + 1)) (sym w.self-is)
           (between_past t source reader earlier later n t' c.loop-n.invariant
           (elim w.else-n-source.branch [
             | else-n-source-via-then-n-source+then-n-reader+else-either_has v ↦ and_right apart writes (sym v.if-either_has.ensures)
@@ -43,4 +41,4 @@ loop-n-preserved c =
     ]
 
 pub returns : goal.returns
-returns c = between_all c.args.t.now c.args.source c.args.reader c.args.earlier.now c.args.later.now c.loop-n.n c.loop-n.t c.loop-n.invariant c.loop-n-test.false
+returns c = between_all c.args.self.now c.args.source c.args.reader c.args.earlier.now c.args.later.now c.loop-n.n c.loop-n.self c.loop-n.invariant c.loop-n-test.false

@@ -1,0 +1,19 @@
+use Rattle.std.proofs.Common.{sym}
+use Rattle.std.proofs.lemmas.Bool.{or_from}
+use Rattle.history.specs.Marked.{marked}
+use Rattle.views.proofs.Asking.{read_first, read_other}
+use Rattle.views.proofs.constraints.Constraints.ask_read.Goals as goal
+
+pub returns-in-None : goal.returns-in-None
+returns-in-None g c =
+    read_first g.K.Item.alike c.args.self.now c.args.item c.args.cue c.requires c.args.before.now c.args.after.now c.writers_of-earlier.result.last c.writers_of-earlier.ensures.last
+    c.writers_of-later.result.cues c.put_first.new.self c.writers_of-later.ensures.marks c.put_first.ensures c.in-None.is
+
+pub returns-else-is_marked-2 : goal.returns-else-is_marked-2
+returns-else-is_marked-2 g c =
+    let earlier = c.writers_of-earlier.result.cues in
+    let later = c.writers_of-later.result.cues in
+    read_other g.K.Item.alike c.args.self.now c.args.item c.args.cue c.requires c.args.before.now c.args.after.now c.writers_of-earlier.result.last c.writers_of-earlier.ensures.last
+    c.in-Some.source c.in-Some.is c.if-source-cue.true earlier later c.writers_of-earlier.ensures.marks c.writers_of-later.ensures.marks c.put_ahead.new.self c.put_between.new.self
+    (or_from (marked earlier c.args.cue) (marked later c.in-Some.source) (sym c.if-is_marked.ensures) (sym c.if-is_marked-2.ensures))
+    c.put_ahead.ensures c.put_between.ensures

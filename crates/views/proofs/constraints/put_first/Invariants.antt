@@ -1,5 +1,0 @@
-use Rattle.views.proofs.Putting.{FirstUpto}
-use Rattle.views.proofs.constraints.put_first.Given as goal
-
-abbrev pub invariant-loop-n : goal.invariant-loop-n
-invariant-loop-n l = FirstUpto l.initial.t l.reader l.writers l.n l.t
