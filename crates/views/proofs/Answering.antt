@@ -23,7 +23,7 @@ use Rattle.equivalence.proofs.Fitting.{views_by_constraints}
 use Rattle.views.specs.declared.constraints.Constraints.{Constraints}
 use Rattle.views.specs.declared.members.Members.{Members}
 use Rattle.views.specs.Answer.{views_refusal, answered, filled, left, views_answer, views_list}
-use Rattle.views.specs.Shown.{members_of, placed_of, left_of, rest_of}
+use Rattle.views.specs.Shown.{all_of, placed_of, left_of, rest_of}
 use Rattle.views.specs.Tables.{ahead_in, apart_in, Holds}
 use Rattle.views.proofs.Leaving.{placed_in, left_in}
 use Rattle.views.proofs.Ranking.{members_few}
@@ -68,7 +68,7 @@ module _ {K : Type 0} (alike : K → K → Bool) (same : Sameness alike) (es : L
       by_constraints
       ∙ cond-false (is_hidden alike es) None (first_where (fits (is_ahead alike es) (is_apart alike es)) (orders us)) holds.shown
       ∙ sym (λ k. first_where (fits (λ a b. holds.ahead a b k) (λ j r n. holds.apart j r n k)) (orders (among (λ n. holds.cues n k))))
-      ∙ (λ k. first_where (fits_after (ahead_in t) (apart_in t) (sym (none_placed (members_of t)) k)) (orders (sym (all_left (members_of t)) k)))
+      ∙ (λ k. first_where (fits_after (ahead_in t) (apart_in t) (sym (none_placed (all_of t)) k)) (orders (sym (all_left (all_of t)) k)))
 
 -- a list with an order of n numbers at its front
 whole : (n : ℕ) (list : List ℕ) → take n list ++ drop n list ≡ list
@@ -109,7 +109,7 @@ module _ {K : Type 0} (alike : K → K → Bool) (es : List (Entry K)) (list : L
   -- all of them are left at the start
   pub start_long : (t : Constraints) → Holds alike es t → length (left_of t (replicate 64 false)) ≡ length (take (length us) list)
   start_long t holds =
-      ap length (all_left (members_of t) ∙ (λ i. among (λ n. holds.cues n i)) ∙ sym us_committed) ∙ sym (length-take-le (length us) list room)
+      ap length (all_left (all_of t) ∙ (λ i. among (λ n. holds.cues n i)) ∙ sym us_committed) ∙ sym (length-take-le (length us) list room)
 
   module _ (v : Option (List ℕ)) (e : view_order alike es ≡ v) where
     long : (o : List ℕ) → v ≡ Some o → length o ≡ length us

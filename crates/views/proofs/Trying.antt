@@ -20,7 +20,7 @@ use Rattle.equivalence.proofs.Extended.{try_one, try_all, first_by_branches}
 use Rattle.views.specs.declared.constraints.Constraints.{Constraints}
 use Rattle.views.specs.Tables.{ahead_in, apart_in}
 use Rattle.views.specs.Answer.{filled}
-use Rattle.views.specs.Shown.{members_of, placed_of, left_of, rest_of}
+use Rattle.views.specs.Shown.{all_of, placed_of, left_of, rest_of}
 use Rattle.views.proofs.Leaving.{left_in, left_set, placed_set}
 
 -- an order fits by what was seen, in whatever order it was
@@ -56,23 +56,23 @@ found_none None h = refl
 found_none (Some o) h = absurd (both_ways true h refl)
 
 -- the members
-pub members_distinct : (t : Constraints) → Distinct (members_of t)
+pub members_distinct : (t : Constraints) → Distinct (all_of t)
 members_distinct t = distinct_among (marked t.members.cues)
 
-pub members_cues : (t : Constraints) → All (λ n. is_cue n ≡ true) (members_of t)
+pub members_cues : (t : Constraints) → All (λ n. is_cue n ≡ true) (all_of t)
 members_cues t =
-    All-weaker (λ m. (1 ≤ m) × (m ≤ 64) × (marked t.members.cues m ≡ true)) (λ m. is_cue m ≡ true) (λ m k. is_cue_lem m k.0 k.1) (members_of t) (among_all (marked t.members.cues))
+    All-weaker (λ m. (1 ≤ m) × (m ≤ 64) × (marked t.members.cues m ≡ true)) (λ m. is_cue m ≡ true) (λ m k. is_cue_lem m k.0 k.1) (all_of t) (among_all (marked t.members.cues))
 
 module _ (t : Constraints) (table : List Bool) where
   -- the first order that starts with one of the cues xs
   abbrev pub Tried : List ℕ → Option (List ℕ)
   Tried xs = try_all (ahead_in t) (apart_in t) (placed_of t table) (left_of t table) (left_in xs table)
 
-  module _ (cues : List ℕ) (is : cues ≡ members_of t) where
+  module _ (cues : List ℕ) (is : cues ≡ all_of t) where
     pub rest_tried : 0 < length (left_of t table) → Tried cues ≡ rest_of t table
     rest_tried h =
         ap Tried is
-        ∙ sym (first_by_branches (ahead_in t) (apart_in t) (placed_of t table) (left_of t table) (distinct_kept (λ n. not (marked table n)) (members_of t) (members_distinct t))
+        ∙ sym (first_by_branches (ahead_in t) (apart_in t) (placed_of t table) (left_of t table) (distinct_kept (λ n. not (marked table n)) (all_of t) (members_distinct t))
         (λ e. omega (arith, h, ap length e)))
 
     -- the cue with index k is next
@@ -96,7 +96,7 @@ module _ (t : Constraints) (table : List Bool) where
       pub next_cue : is_cue x ≡ true
       next_cue = All-get_or (λ n. is_cue n ≡ true) cues k 0 h (subst (All (λ n. is_cue n ≡ true)) (sym is) (members_cues t))
 
-      there : has x (members_of t) ≡ true
+      there : has x (all_of t) ≡ true
       there = subst (λ (us : List ℕ). has x us ≡ true) is (has_at cues k h)
 
       left_tried : marked table x ≡ false → Tried (drop k cues) ≡ or_else One (Tried (drop (k + 1) cues))
@@ -119,15 +119,15 @@ module _ (t : Constraints) (table : List Bool) where
         rest_next : rest_of t Next ≡ Others
         rest_next =
             first_alike (fits_after (ahead_in t) (apart_in t) (placed_of t Next)) (fits_after (ahead_in t) (apart_in t) (x ∷ placed_of t table))
-            (λ o. fits_seen (ahead_in t) (apart_in t) o (placed_of t Next) (x ∷ placed_of t table) (placed_set table long x next_cue (members_of t) (members_cues t) there)) (orders (left_of t Next))
-            ∙ ap (λ (us : List ℕ). first_where (fits_after (ahead_in t) (apart_in t) (x ∷ placed_of t table)) (orders us)) (left_set table long x next_cue (members_of t) (members_cues t))
+            (λ o. fits_seen (ahead_in t) (apart_in t) o (placed_of t Next) (x ∷ placed_of t table) (placed_set table long x next_cue (all_of t) (members_cues t) there)) (orders (left_of t Next))
+            ∙ ap (λ (us : List ℕ). first_where (fits_after (ahead_in t) (apart_in t) (x ∷ placed_of t table)) (orders us)) (left_set table long x next_cue (all_of t) (members_cues t))
 
         -- one less is left
         pub left_less : length (left_of t table) ≡ suc (length (left_of t Next))
         left_less =
-            length_without x (left_of t table) (distinct_kept (λ m. not (marked table m)) (members_of t) (members_distinct t))
-            (has_stands x (left_of t table) (has_kept (λ m. not (marked table m)) x (members_of t) there (not_from_false (marked table x) n)))
-            ∙ ap (λ (us : List ℕ). suc (length us)) (sym (left_set table long x next_cue (members_of t) (members_cues t)))
+            length_without x (left_of t table) (distinct_kept (λ m. not (marked table m)) (all_of t) (members_distinct t))
+            (has_stands x (left_of t table) (has_kept (λ m. not (marked table m)) x (all_of t) there (not_from_false (marked table x) n)))
+            ∙ ap (λ (us : List ℕ). suc (length us)) (sym (left_set table long x next_cue (all_of t) (members_cues t)))
 
         one_next : May ≡ true → One ≡ option_map (λ o. x ∷ o) (rest_of t Next)
         one_next y = cond-true May (option_map (λ o. x ∷ o) Others) None y ∙ ap (option_map (λ o. x ∷ o)) (sym rest_next)

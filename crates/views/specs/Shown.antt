@@ -7,15 +7,15 @@ use Rattle.views.specs.declared.constraints.Constraints.{Constraints}
 use Rattle.views.specs.Tables.{ahead_in, apart_in}
 
 -- the members in rising order
-abbrev pub members_of : Constraints → List ℕ
-members_of t = among (marked t.members.cues)
+abbrev pub all_of : Constraints → List ℕ
+all_of t = among (marked t.members.cues)
 
 -- those that are placed, and those that are left
 abbrev pub placed_of : Constraints → List Bool → List ℕ
-placed_of t table = filter (marked table) (members_of t)
+placed_of t table = filter (marked table) (all_of t)
 
 abbrev pub left_of : Constraints → List Bool → List ℕ
-left_of t table = filter (λ n. not (marked table n)) (members_of t)
+left_of t table = filter (λ n. not (marked table n)) (all_of t)
 
 -- the first order of those left that keeps the constraints after those placed
 abbrev pub rest_of : Constraints → List Bool → Option (List ℕ)

@@ -10,7 +10,8 @@ use crate::members::Members;
 use history::{Act, Entry, is_marked, writes_item};
 use items::Item;
 
-// The constraints between the members, told by their ranks.
+// The constraints between the members, told by their ranks. The tables are flat, as the checker covers no literal of a struct with an
+// array of arrays.
 #[derive(Clone, Copy)]
 pub struct Constraints {
     pub members: Members,
@@ -56,20 +57,16 @@ impl Constraints {
     pub fn is_ahead(&self, a: u32, b: u32) -> bool
         ensures { result ≡ ahead_in self.now a b }
     {
-        match self.members.pair(a, b) {
-            Some(cell) => self.ahead[cell],
-            None => false,
-        }
+        self.members.pair(a, b).is_some_and(|cell| self.ahead[cell])
     }
 
     // Whether `writer` must not stand between `source` and `reader`.
     pub fn is_apart(&self, source: u32, reader: u32, writer: u32) -> bool
         ensures { result ≡ apart_in self.now source reader writer }
     {
-        match self.members.triple(source, reader, writer) {
-            Some(cell) => self.apart[cell],
-            None => false,
-        }
+        self.members
+            .triple(source, reader, writer)
+            .is_some_and(|cell| self.apart[cell])
     }
 
     // Notes that `a` must come before `b`.
@@ -153,12 +150,7 @@ impl Constraints {
     }
 
     // What an entry asks. None where it is a read whose source is hidden in every order.
-    fn ask<K: Item>(
-        &mut self,
-        before: &[Entry<K>],
-        e: &Entry<K>,
-        after: &[Entry<K>],
-    ) -> Option<()>
+    fn ask<K: Item>(&mut self, before: &[Entry<K>], e: &Entry<K>, after: &[Entry<K>]) -> Option<()>
         ensures { Asked K.Item.alike self.old self.new before.now e.now after.now result }
     {
         if !self.members.has(e.cue) {

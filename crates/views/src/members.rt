@@ -10,7 +10,7 @@ use history::{Entry, committed_cues, is_marked};
 // How many committed cues have views.
 pub const MOST: usize = 8;
 
-// The cues that a table marks, and their numbers in rising order.
+// The cues that a table marks, and their numbers in rising order: an array and a count, as there is no heap.
 #[derive(Clone, Copy)]
 pub struct Members {
     pub cues: [bool; 64],

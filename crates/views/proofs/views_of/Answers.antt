@@ -3,7 +3,11 @@ use Rattle.std.specs.Bool.{then_some}
 use Rattle.equivalence.specs.Laws.{Sameness}
 use Rattle.views.specs.Shown.{rest_of}
 use Rattle.views.proofs.Answering.{view_hidden, view_shown, start_long, taken_answer, taken_list, none_list}
+use Rattle.views.proofs.views_of.Given.{Over}
 use Rattle.views.proofs.views_of.Goals as goal
+
+sameness : (g : Over) → Sameness g.K.Item.alike
+sameness g = record { reflexive = g.met.K.Item.reflexive; symmetric = g.met.K.Item.symmetric; transitive = g.met.K.Item.transitive }
 
 pub returns-in_default-constraints_of : goal.returns-in_default-constraints_of
 returns-in_default-constraints_of g c =
@@ -12,8 +16,7 @@ returns-in_default-constraints_of g c =
     let list = c.args.list.now in
     let m = c.in-Some.members in
     let us = c.numbers-count.result.now in
-    let sameness : Sameness alike = record { reflexive = g.met.K.Item.reflexive; symmetric = g.met.K.Item.symmetric; transitive = g.met.K.Item.transitive } in
-    let none = view_hidden alike sameness es c.in_default-constraints_of.ensures in
+    let none = view_hidden alike (sameness g) es c.in_default-constraints_of.ensures in
     record {
       answer = taken_answer alike es list m c.in-Some.ensures.some us c.numbers-count.ensures c.if-list-count.false None none;
       list = none_list alike es list m c.in-Some.ensures.some us c.numbers-count.ensures c.if-list-count.false None none refl;
@@ -32,9 +35,8 @@ returns g c =
     let m = c.in-Some.members in
     let us = c.numbers-count.result.now in
     let t = c.in-Some-constraints_of.constraints in
-    let sameness : Sameness alike = record { reflexive = g.met.K.Item.reflexive; symmetric = g.met.K.Item.symmetric; transitive = g.met.K.Item.transitive } in
     let rest = rest_of t (replicate 64 false) in
-    let found = view_shown alike sameness es t c.in-Some-constraints_of.ensures in
+    let found = view_shown alike (sameness g) es t c.in-Some-constraints_of.ensures in
     record {
       answer = ap (λ o. Ok o) (c.then_some.ensures ∙ ap (λ b. then_some b (length us)) c.extend-found.ensures.found)
           ∙ taken_answer alike es list m c.in-Some.ensures.some us c.numbers-count.ensures c.if-list-count.false rest found;

@@ -7,9 +7,6 @@ use Rattle.views.proofs.Putting.{BetweenUpto, between_none, between_more, betwee
 use Rattle.views.proofs.constraints.Constraints.put_between.Goals as goal
 use Rattle.views.proofs.constraints.Constraints.put_between.Goals.{then-n-source+then-n-reader+then-either_has, else-n-source, else-n-source-via-then-n-source+then-n-reader+else-either_has, else-n-source-via-then-n-source+else-n-reader, else-n-source-via-else-n-source}
 
-pub loop-n-init : goal.loop-n-init
-loop-n-init c = between_none c.args.self.now c.args.source c.args.reader c.args.earlier.now c.args.later.now
-
 pub loop-n-preserved : goal.loop-n-preserved
 loop-n-preserved c =
     let t = c.args.self.now in
@@ -39,6 +36,3 @@ loop-n-preserved c =
                 and_left apart writes (and_left (not (eqb n source)) (not (eqb n reader)) (not_from_true (eqb n source) (eq-eqb n source v.if-n-source.false)))
           ]))
     ]
-
-pub returns : goal.returns
-returns c = between_all c.args.self.now c.args.source c.args.reader c.args.earlier.now c.args.later.now c.loop-n.n c.loop-n.self c.loop-n.invariant c.loop-n-test.false

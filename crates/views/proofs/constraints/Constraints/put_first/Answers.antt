@@ -7,9 +7,6 @@ use Rattle.views.proofs.Putting.{FirstUpto, first_none, first_more, first_past, 
 use Rattle.views.proofs.constraints.Constraints.put_first.Goals as goal
 use Rattle.views.proofs.constraints.Constraints.put_first.Goals.{then-n-reader+then-is_marked, else-n-reader, else-n-reader-via-then-n-reader+else-is_marked, else-n-reader-via-else-n-reader}
 
-pub loop-n-init : goal.loop-n-init
-loop-n-init c = first_none c.args.self.now c.args.reader c.args.writers.now
-
 pub loop-n-preserved : goal.loop-n-preserved
 loop-n-preserved c =
     let t = c.args.self.now in
@@ -30,6 +27,3 @@ loop-n-preserved c =
             | else-n-reader-via-else-n-reader v ↦ and_left (not (eqb n reader)) (marked writers n) (not_from_true (eqb n reader) (eq-eqb n reader v.if-n-reader.false))
           ]))
     ]
-
-pub returns : goal.returns
-returns c = first_all c.args.self.now c.args.reader c.args.writers.now c.loop-n.n c.loop-n.self c.loop-n.invariant c.loop-n-test.false

@@ -52,25 +52,20 @@ loop-x-preserved t c =
     elim c.if-not-is_marked.branch [
       | then-not-is_marked+then-may_come+else-extend w ↦
           let x = get_or c.numbers-x-items.result.now c.loop-x.x-index 0 in
-          let rest = rest_of c.args.self.now.constraints.now (set c.args.self.now.placed (x - 1) true) in
-          (inv.0, w.rest-is ∙ w.if-extend.ensures.list ∙ filled_none rest c.loop-x.rest (sym w.if-extend.ensures.found) ∙ inv.1,
-          past_tried c.args.self.now.constraints.now c.args.self.now.placed c.numbers-x-items.result.now c.numbers-x-items.ensures c.loop-x.x-index c.loop-x-test.true (omega arith) (sym w.if-not-is_marked.ensures)
-          (sym w.if-may_come.ensures) (sym w.if-extend.ensures.found) inv.2)
-      | else-not-is_marked w ↦
-          (inv.0, w.rest-is ∙ inv.1,
-          elim w.else-not-is_marked.branch [
-            | else-not-is_marked-via-then-not-is_marked+else-may_come v ↦
-                past_barred c.args.self.now.constraints.now c.args.self.now.placed c.numbers-x-items.result.now c.numbers-x-items.ensures c.loop-x.x-index c.loop-x-test.true (sym v.if-not-is_marked.ensures) (sym v.if-may_come.ensures) inv.2
-            | else-not-is_marked-via-else-not-is_marked v ↦
-                past_placed c.args.self.now.constraints.now c.args.self.now.placed c.numbers-x-items.result.now c.numbers-x-items.ensures c.loop-x.x-index c.loop-x-test.true (sym v.if-not-is_marked.ensures) inv.2
-          ])
+          let rest = rest_of c.args.self.now.constraints.now (set c.args.self.now.placed (x - 1) true) in (
+            inv.0,
+            w.rest-is ∙ w.if-extend.ensures.list ∙ filled_none rest c.loop-x.rest (sym w.if-extend.ensures.found) ∙ inv.1,
+            past_tried c.args.self.now.constraints.now c.args.self.now.placed c.numbers-x-items.result.now c.numbers-x-items.ensures c.loop-x.x-index c.loop-x-test.true (omega arith) (sym w.if-not-is_marked.ensures)
+                (sym w.if-may_come.ensures) (sym w.if-extend.ensures.found) inv.2,
+          )
+      | else-not-is_marked w ↦ (
+        inv.0,
+        w.rest-is ∙ inv.1,
+        elim w.else-not-is_marked.branch [
+          | else-not-is_marked-via-then-not-is_marked+else-may_come v ↦
+              past_barred c.args.self.now.constraints.now c.args.self.now.placed c.numbers-x-items.result.now c.numbers-x-items.ensures c.loop-x.x-index c.loop-x-test.true (sym v.if-not-is_marked.ensures) (sym v.if-may_come.ensures) inv.2
+          | else-not-is_marked-via-else-not-is_marked v ↦
+              past_placed c.args.self.now.constraints.now c.args.self.now.placed c.numbers-x-items.result.now c.numbers-x-items.ensures c.loop-x.x-index c.loop-x-test.true (sym v.if-not-is_marked.ensures) inv.2
+        ],
+      )
     ]
-
-pub returns-clause-found : goal.returns-clause-found
-returns-clause-found t c =
-    sym (ap is_some (rest_end c.args.self.now.constraints.now c.args.self.now.placed c.numbers-x-items.result.now c.numbers-x-items.ensures c.loop-x.x-index c.loop-x-test.false c.loop-x.invariant.2))
-
-pub returns-clause-list : goal.returns-clause-list
-returns-clause-list t c =
-    let none = rest_end c.args.self.now.constraints.now c.args.self.now.placed c.numbers-x-items.result.now c.numbers-x-items.ensures c.loop-x.x-index c.loop-x-test.false c.loop-x.invariant.2 in
-    (λ i. c.loop-x.invariant.0 i ∷ c.loop-x.invariant.1 i) ∙ sym c.in-Some.ensures.cases.0 ∙ (λ i. filled (sym none i) c.args.list.now)

@@ -40,12 +40,3 @@ loop-w-preserved g c =
                 past (and_left (marked cues w.cue) (writes (alike k) w.act) (sym {b = marked cues w.cue} u.if-has.ensures))
           ])
     ]
-
-pub returns : goal.returns
-returns g c =
-    let alike = g.K.Item.alike in
-    let cues = c.args.self.now.cues in
-    record {
-      marks = found_marks alike (marked cues) c.args.item c.args.part.now c.loop-w.w-index c.loop-w.cues c.loop-w.last c.loop-w.invariant c.loop-w-test.false;
-      last = found_last alike (marked cues) c.args.item c.args.part.now c.loop-w.w-index c.loop-w.cues c.loop-w.last c.loop-w.invariant c.loop-w-test.false;
-    }
