@@ -61,9 +61,6 @@ pub record Listed (c : ℕ → Bool) (n : ℕ) (numbers : List ℕ) (count : ℕ
   pub many : count ≡ length (below c n)
   pub front : take count numbers ≡ below c n
 
-pub listed_none : (c : ℕ → Bool) → Listed c 1 (replicate 8 0) 0
-listed_none c = record { eight = refl; few = omega arith; many = refl; front = refl }
-
 module _ (c : ℕ → Bool) (n : ℕ) (numbers : List ℕ) (count : ℕ) (low : 1 ≤ n) (inv : Listed c n numbers count) where
   pub listed_no : c n ≡ false → Listed c (n + 1) numbers count
   listed_no f =

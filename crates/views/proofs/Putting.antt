@@ -25,11 +25,6 @@ module _ (t : Constraints) (reader : ℕ) (writers : List Bool) where
   abbrev pub FirstUpto : ℕ → Constraints → Type 0
   FirstUpto n t' = Member t reader → Within writers t → Notes (λ a b. first reader writers a b && ltb b n) none_apart t t'
 
-  pub first_none : FirstUpto 1 t
-  first_none cr within =
-      notes_same none_ahead (λ a b. first reader writers a b && ltb b 1) none_apart none_apart t t
-      (λ a b. sym (upto_none (eqb a reader) other (and_right (not (eqb 0 reader)) (marked writers 0) refl) b)) (λ j r n. refl) (notes_none t)
-
   module _ (n : ℕ) (t' : Constraints) (had : FirstUpto n t') where
     pub first_more : (t'' : Constraints) → other n ≡ true → PutsAhead t' t'' reader n → FirstUpto (n + 1) t''
     first_more t'' e put cr within =
@@ -45,12 +40,6 @@ module _ (t : Constraints) (reader : ℕ) (writers : List Bool) where
         notes_same (λ a b. first reader writers a b && ltb b n) (λ a b. first reader writers a b && ltb b (n + 1)) none_apart none_apart t t'
         (λ a b. upto_past (eqb a reader) other n e b) (λ j r m. refl) (had cr within)
 
-    pub first_all : 65 ≤ n → PutsFirst t t' reader writers
-    first_all end cr within =
-        notes_same (λ a b. first reader writers a b && ltb b n) (first reader writers) none_apart none_apart t t'
-        (λ a b. upto_all (eqb a reader) other n b (λ e. omega (arith, marked_low writers b (and_parts (not (eqb b reader)) (marked writers b) e).1))) (λ j r m. refl)
-        (had cr within)
-
 module _ (t : Constraints) (source reader : ℕ) (earlier later : List Bool) where
   -- a writer other than these two
   abbrev pub third : ℕ → Bool
@@ -59,11 +48,6 @@ module _ (t : Constraints) (source reader : ℕ) (earlier later : List Bool) whe
   -- those below m do not stand between the source and the reader
   abbrev pub BetweenUpto : ℕ → Constraints → Type 0
   BetweenUpto m t' = Member t source → Member t reader → Within earlier t → Within later t → Notes none_ahead (λ j r n. split source reader earlier later j r n && ltb n m) t t'
-
-  pub between_none : BetweenUpto 1 t
-  between_none cs cr we wl =
-      notes_same none_ahead none_ahead none_apart (λ j r n. split source reader earlier later j r n && ltb n 1) t t (λ a b. refl)
-      (λ j r n. sym (upto_none (eqb j source && eqb r reader) third (and_right (not (eqb 0 source) && not (eqb 0 reader)) (marked earlier 0 || marked later 0) refl) n)) (notes_none t)
 
   third_is : (n : ℕ) → third n ≡ true → (marked earlier n ≡ true) ⊎ (marked later n ≡ true)
   third_is n e = or_cases (marked earlier n) (marked later n) (and_parts (not (eqb n source) && not (eqb n reader)) (marked earlier n || marked later n) e).1
@@ -83,9 +67,3 @@ module _ (t : Constraints) (source reader : ℕ) (earlier later : List Bool) whe
     between_past e cs cr we wl =
         notes_same none_ahead none_ahead (λ j r n. split source reader earlier later j r n && ltb n m) (λ j r n. split source reader earlier later j r n && ltb n (m + 1)) t t'
         (λ a b. refl) (λ j r n. upto_past (eqb j source && eqb r reader) third m e n) (had cs cr we wl)
-
-    pub between_all : 65 ≤ m → PutsBetween t t' source reader earlier later
-    between_all end cs cr we wl =
-        notes_same none_ahead none_ahead (λ j r n. split source reader earlier later j r n && ltb n m) (split source reader earlier later) t t' (λ a b. refl)
-        (λ j r n. upto_all (eqb j source && eqb r reader) third m n (λ e. elim (third_is n e) [ inl x ↦ omega (arith, marked_low earlier n x) | inr x ↦ omega (arith, marked_low later n x) ]))
-        (had cs cr we wl)

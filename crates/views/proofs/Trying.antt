@@ -3,7 +3,7 @@ use Rattle.std.proofs.Common.{◌≡◌, ℕ, zero, suc, ◌+◌, ◌-◌, ◌<�
 use Rattle.std.specs.Option.{option_map}
 use Rattle.std.specs.List.{AllByRecursion as All}
 use Rattle.std.proofs.ByRecursion.{All-weaker, All-get_or}
-use Rattle.std.proofs.lemmas.List.{at_drop_more, at_drop_all}
+use Rattle.std.proofs.lemmas.List.{at_drop_more}
 use Rattle.std.proofs.lemmas.Bool.{cond-true, cond-false, both_ways, cases_Bool, eq-eqb, eqb-true, not_from_false, or_left, or_right}
 use Rattle.lists.specs.Lists.{some, or_else, has}
 use Rattle.orders.specs.Least.{Distinct}
@@ -143,9 +143,6 @@ module _ (t : Constraints) (table : List Bool) where
             kept : (rest : Option (List ℕ)) → is_some rest ≡ true → or_else (option_map (λ o. x ∷ o) rest) (Tried (drop (k + 1) cues)) ≡ option_map (λ o. x ∷ o) rest
             kept None h = absurd (both_ways false refl h)
             kept (Some o) h = refl
-
-    pub rest_end : (k : ℕ) → length cues ≤ k → Tried (drop k cues) ≡ rest_of t table → rest_of t table ≡ None
-    rest_end k h inv = sym inv ∙ at_drop_all Tried cues k h
 
 pub found_more : (x : ℕ) (rest : Option (List ℕ)) → is_some (option_map (λ o. x ∷ o) rest) ≡ is_some rest
 found_more x None = refl

@@ -110,10 +110,3 @@ module _ {K : Type 0} (alike : K → K → Bool) (c : ℕ → Bool) (k : K) wher
               ∙ sym (writer_more ws i w h e n);
           last = had.last ∙ sym (last_more ws i w h e ∙ ap (λ (b : Bool). option_map (λ (x : Entry K). x.cue) (or_else (cond b (Some w) None) (last_where (sets alike c k) (take i ws)))) fails);
         }
-
-  module _ (ws : List (Entry K)) (i : ℕ) (found : List Bool) (latest : Option ℕ) (had : Found ws i found latest) (end : length ws ≤ i) where
-    pub found_marks : (n : ℕ) → marked found n ≡ writer alike c k ws n
-    found_marks n = had.marks n ∙ ap (λ (xs : List (Entry K)). writer alike c k xs n) (take_all i ws end)
-
-    pub found_last : latest ≡ last_writer alike c k ws
-    found_last = had.last ∙ ap (λ (xs : List (Entry K)). last_writer alike c k xs) (take_all i ws end)

@@ -3,7 +3,7 @@ use Rattle.std.proofs.lemmas.Bool.{and_from, and_left, and_right, eq-eqb, ne_eqb
 use Rattle.history.specs.Marked.{marked}
 use Rattle.views.specs.declared.constraints.Constraints.{Constraints}
 use Rattle.views.specs.Noted.{PutsApart}
-use Rattle.views.proofs.Putting.{BetweenUpto, between_none, between_more, between_past, between_all}
+use Rattle.views.proofs.Putting.{BetweenUpto, between_more, between_past}
 use Rattle.views.proofs.constraints.Constraints.put_between.Goals as goal
 use Rattle.views.proofs.constraints.Constraints.put_between.Goals.{then-n-source+then-n-reader+then-either_has, else-n-source, else-n-source-via-then-n-source+then-n-reader+else-either_has, else-n-source-via-then-n-source+else-n-reader, else-n-source-via-else-n-source}
 

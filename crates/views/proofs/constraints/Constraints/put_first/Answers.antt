@@ -3,7 +3,7 @@ use Rattle.std.proofs.lemmas.Bool.{and_from, and_left, and_right, eq-eqb, ne_eqb
 use Rattle.history.specs.Marked.{marked}
 use Rattle.views.specs.declared.constraints.Constraints.{Constraints}
 use Rattle.views.specs.Noted.{PutsAhead}
-use Rattle.views.proofs.Putting.{FirstUpto, first_none, first_more, first_past, first_all}
+use Rattle.views.proofs.Putting.{FirstUpto, first_more, first_past}
 use Rattle.views.proofs.constraints.Constraints.put_first.Goals as goal
 use Rattle.views.proofs.constraints.Constraints.put_first.Goals.{then-n-reader+then-is_marked, else-n-reader, else-n-reader-via-then-n-reader+else-is_marked, else-n-reader-via-else-n-reader}
 

@@ -2,7 +2,7 @@ use Rattle.std.proofs.Common.{◌≡◌, ◌-◌, ◌∷◌, true, false, is_som
 use Rattle.history.proofs.Committed.{cue_low, cue_high}
 use Rattle.views.specs.Answer.{filled}
 use Rattle.views.specs.Shown.{rest_of}
-use Rattle.views.proofs.Trying.{rest_tried, next_cue, left_less, past_placed, past_barred, past_tried, rest_found, rest_end, found_more, filled_none, filled_more}
+use Rattle.views.proofs.Trying.{rest_tried, next_cue, left_less, past_placed, past_barred, past_tried, rest_found, found_more, filled_none, filled_more}
 use Rattle.views.proofs.extending.Placing.+extend.Goals as goal
 use Rattle.views.proofs.extending.Placing.+extend.Goals.{then-not-is_marked+then-may_come+else-extend, else-not-is_marked, else-not-is_marked-via-then-not-is_marked+else-may_come, else-not-is_marked-via-else-not-is_marked}
 

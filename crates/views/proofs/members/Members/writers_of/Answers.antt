@@ -4,7 +4,7 @@ use Rattle.history.specs.Conflicts.{writes}
 use Rattle.history.specs.Marked.{marked}
 use Rattle.history.proofs.Marks.{marked_cue}
 use Rattle.equivalence.specs.Constraints.{sets}
-use Rattle.views.proofs.Writing.{Found, found_none, found_more, found_past, found_marks, found_last}
+use Rattle.views.proofs.Writing.{Found, found_none, found_more, found_past}
 use Rattle.views.proofs.members.Members.writers_of.Goals as goal
 use Rattle.views.proofs.members.Members.writers_of.Goals.{then-has+then-writes_item, else-has, else-has-via-then-has+else-writes_item, else-has-via-else-has}
 
