@@ -23,7 +23,7 @@ use Rattle.equivalence.proofs.Fitting.{views_by_constraints}
 use Rattle.views.specs.declared.constraints.Constraints.{Constraints}
 use Rattle.views.specs.declared.members.Members.{Members}
 use Rattle.views.specs.Answer.{views_refusal, answered, filled, left, views_answer, views_list}
-use Rattle.views.specs.Shown.{all_of, placed_of, left_of, rest_of}
+use Rattle.views.specs.Shown.{all_of, left_of, rest_of}
 use Rattle.views.specs.Tables.{ahead_in, apart_in, Holds}
 use Rattle.views.proofs.Leaving.{placed_in, left_in}
 use Rattle.views.proofs.Ranking.{members_few}

@@ -1,17 +1,13 @@
 -- What a read and a write ask, from what the helpers note. Assumes nothing.
 use Rattle.std.proofs.Common.{◌≡◌, ℕ, Bool, true, false, not, ◌&&◌, ◌||◌, eqb, List, Some, None, Option, sym, refl, ap, ◌∙◌, subst}
 use mathlib.Core.Bool.{and-true, or-false}
-use Rattle.std.proofs.lemmas.Bool.{and_left, and_right, eq-eqb, ne_eqb, not_from_false, not_from_true, or_from}
-use Rattle.history.specs.declared.Act.{Act}
-use Rattle.history.specs.declared.Act.TheVariants.{Read, Write, Commit, Abort}
+use Rattle.std.proofs.lemmas.Bool.{ne_eqb, not_from_false}
 use Rattle.history.specs.declared.Entry.{Entry}
-use Rattle.history.specs.Conflicts.{reads, writes}
 use Rattle.history.specs.Marked.{marked}
-use Rattle.equivalence.specs.Constraints.{writer, last_writer, read_hides, read_ahead, read_apart, write_ahead, hides, ahead, apart}
+use Rattle.equivalence.specs.Constraints.{writer, last_writer, read_hides, read_ahead, read_apart, write_ahead, apart}
 use Rattle.views.specs.declared.constraints.Constraints.{Constraints}
 use Rattle.views.specs.Noted.{Notes, Member, Within, none_ahead, none_apart, first, PutsAhead, PutsFirst, split, PutsBetween, ReadBy, AskedRead, AskedWrite}
-use Rattle.views.specs.Tables.{Asks, Asked}
-use Rattle.views.proofs.Noting.{notes_none, notes_same, notes_two}
+use Rattle.views.proofs.Noting.{notes_same, notes_two}
 use Rattle.views.proofs.Putting.{same_member}
 use Rattle.views.proofs.Writing.{writer_in, last_in}
 

@@ -10,7 +10,7 @@ use Rattle.history.specs.Marked.{marked}
 use Rattle.equivalence.specs.Constraints.{amid, hides, ahead, apart}
 use Rattle.views.specs.declared.constraints.Constraints.{Constraints}
 use Rattle.views.specs.declared.members.Members.{Members}
-use Rattle.views.specs.Tables.{pair_in, triple_in, ahead_in, apart_in, Asks, Asked, Holds, Derived}
+use Rattle.views.specs.Tables.{pair_in, triple_in, ahead_in, apart_in, Asks, Asked, Derived}
 use Rattle.views.proofs.Ranking.{told_none}
 
 module _ {X : Type 0} (test : List X → X → List X → Bool) (xs : List X) where

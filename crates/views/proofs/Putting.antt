@@ -1,13 +1,13 @@
 -- The loops that note what a read asks of the other writers. Assumes nothing.
-use Rattle.std.proofs.Common.{◌≡◌, ℕ, ◌+◌, ◌<◌, ◌≤◌, Bool, true, false, not, ◌&&◌, ◌||◌, eqb, ltb, ◌⊎◌, List, sym, refl, subst, inl, inr, arith}
-use Rattle.std.proofs.lemmas.Bool.{and_parts, and_right, or_cases}
+use Rattle.std.proofs.Common.{◌≡◌, ℕ, ◌+◌, ◌<◌, Bool, true, false, not, ◌&&◌, ◌||◌, eqb, ltb, ◌⊎◌, List, sym, refl, subst, inl, inr, arith}
+use Rattle.std.proofs.lemmas.Bool.{and_parts, or_cases}
 use Rattle.history.specs.Marked.{marked}
 use Rattle.history.proofs.Committed.{cue_high}
 use Rattle.history.proofs.Marks.{marked_cue}
 use Rattle.views.specs.declared.constraints.Constraints.{Constraints}
 use Rattle.views.specs.declared.members.Members.{Members}
-use Rattle.views.specs.Noted.{Notes, Member, Within, none_ahead, none_apart, first, PutsAhead, PutsApart, PutsFirst, split, PutsBetween}
-use Rattle.views.proofs.Noting.{notes_none, notes_same, notes_two, upto_none, upto_more, upto_past, upto_all}
+use Rattle.views.specs.Noted.{Notes, Member, Within, none_ahead, none_apart, first, PutsAhead, PutsApart, split}
+use Rattle.views.proofs.Noting.{notes_same, notes_two, upto_more, upto_past}
 
 marked_low : (table : List Bool) (n : ℕ) → marked table n ≡ true → n < 65
 marked_low table n m = omega (arith, cue_high n (marked_cue table n m))

@@ -1,5 +1,5 @@
 -- The orders that extend what is placed. Assumes nothing.
-use Rattle.std.specs.Prelude.{ℕ, Bool, not, List, ◌++◌, length, drop, Some, None, filter, Option}
+use Rattle.std.specs.Prelude.{ℕ, Bool, not, List, filter, Option}
 use Rattle.orders.specs.Orders.{among, first_where, orders}
 use Rattle.history.specs.Marked.{marked}
 use Rattle.equivalence.specs.Extending.{fits_after}

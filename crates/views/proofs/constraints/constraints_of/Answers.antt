@@ -1,7 +1,6 @@
-use Rattle.std.proofs.Common.{◌≡◌, ◌+◌, ◌-◌, List, Some, None, Option, take, drop, sym, subst, ◌∙◌, arith}
+use Rattle.std.proofs.Common.{◌+◌, List, None, take, sym, subst}
 use Rattle.std.proofs.lemmas.List.{drop_all, take_rest}
 use Rattle.history.specs.declared.Entry.{Entry}
-use Rattle.views.specs.declared.constraints.Constraints.{Constraints}
 use Rattle.views.specs.Tables.{Asks, Asked, Derived}
 use Rattle.views.proofs.Gathering.{gathered_none, gathered_more, gathered_hidden, gathered_all}
 use Rattle.views.proofs.constraints.constraints_of.Goals as goal

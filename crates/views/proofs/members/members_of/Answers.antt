@@ -1,7 +1,7 @@
-use Rattle.std.proofs.Common.{ℕ, ◌+◌, ◌<◌, List, length, set, sym, subst, arith}
+use Rattle.std.proofs.Common.{ℕ, ◌<◌, List, length, sym, subst, arith}
 use Rattle.orders.specs.Orders.{among}
 use Rattle.history.specs.Marked.{marked}
-use Rattle.views.proofs.Listing.{Listed, listed_no, listed_yes, listed_past, listed_all}
+use Rattle.views.proofs.Listing.{listed_no, listed_yes, listed_past, listed_all}
 use Rattle.views.proofs.members.members_of.Goals as goal
 use Rattle.views.proofs.members.members_of.Goals.{then-is_marked+else-count-eq-MOST, else-is_marked}
 

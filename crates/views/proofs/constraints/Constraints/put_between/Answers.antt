@@ -1,4 +1,4 @@
-use Rattle.std.proofs.Common.{◌≡◌, ◌+◌, not, ◌&&◌, ◌||◌, eqb, sym, subst}
+use Rattle.std.proofs.Common.{◌+◌, not, ◌&&◌, ◌||◌, eqb, sym, subst}
 use Rattle.std.proofs.lemmas.Bool.{and_from, and_left, and_right, eq-eqb, ne_eqb, not_from_true, not_from_false}
 use Rattle.history.specs.Marked.{marked}
 use Rattle.views.specs.declared.constraints.Constraints.{Constraints}

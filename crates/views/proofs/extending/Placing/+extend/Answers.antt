@@ -1,4 +1,4 @@
-use Rattle.std.proofs.Common.{◌≡◌, ◌-◌, ◌∷◌, true, false, is_some, length, get_or, set, sym, refl, ap, ◌∙◌, arith}
+use Rattle.std.proofs.Common.{◌-◌, ◌∷◌, true, is_some, length, get_or, set, sym, refl, ap, ◌∙◌, arith}
 use Rattle.history.proofs.Committed.{cue_low, cue_high}
 use Rattle.views.specs.Answer.{filled}
 use Rattle.views.specs.Shown.{rest_of}
