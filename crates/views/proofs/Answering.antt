@@ -21,6 +21,7 @@ use Rattle.equivalence.specs.Laws.{Sameness}
 use Rattle.equivalence.proofs.Allowed.{view_is_allowed_lem}
 use Rattle.equivalence.proofs.Fitting.{views_by_constraints}
 use Rattle.views.specs.declared.constraints.Constraints.{Constraints}
+use Rattle.views.specs.declared.extending.Placing.{Placing}
 use Rattle.views.specs.declared.members.Members.{Members}
 use Rattle.views.specs.Answer.{views_refusal, answered, filled, left, views_answer, views_list}
 use Rattle.views.specs.Shown.{all_of, left_of, rest_of}
@@ -55,6 +56,10 @@ rearranged_long us [] d h = sym (ap length h)
 rearranged_long us (x ∷ o) d h =
     omega (arith, rearranged_long (without x us) o (distinct_without x us d) h.1, length_without x us d h.0)
 
+-- with none placed
+abbrev pub start : Constraints → Placing
+start t = record { constraints = record { ref_ptr = (0, 0); now = t }; placed = replicate 64 false }
+
 module _ {K : Type 0} (alike : K → K → Bool) (same : Sameness alike) (es : List (Entry K)) where
   by_constraints : view_order alike es ≡ cond (is_hidden alike es) None (first_where (fits (is_ahead alike es) (is_apart alike es)) (orders (committed_cues es)))
   by_constraints = views_by_constraints K (view_is_allowed_lem K) alike same es
@@ -62,13 +67,13 @@ module _ {K : Type 0} (alike : K → K → Bool) (same : Sameness alike) (es : L
   pub view_hidden : is_hidden alike es ≡ true → view_order alike es ≡ None
   view_hidden h = by_constraints ∙ cond-true (is_hidden alike es) None (first_where (fits (is_ahead alike es) (is_apart alike es)) (orders (committed_cues es))) h
 
-  pub view_shown : (t : Constraints) → Holds alike es t → view_order alike es ≡ rest_of t (replicate 64 false)
+  pub view_shown : (t : Constraints) → Holds alike es t → view_order alike es ≡ rest_of (start t)
   view_shown t holds =
       let us = committed_cues es in
       by_constraints
       ∙ cond-false (is_hidden alike es) None (first_where (fits (is_ahead alike es) (is_apart alike es)) (orders us)) holds.shown
       ∙ sym (λ k. first_where (fits (λ a b. holds.ahead a b k) (λ j r n. holds.apart j r n k)) (orders (among (λ n. holds.cues n k))))
-      ∙ (λ k. first_where (fits_after (ahead_in t) (apart_in t) (sym (none_placed (all_of t)) k)) (orders (sym (all_left (all_of t)) k)))
+      ∙ (λ k. first_where (fits_after (ahead_in t) (apart_in t) (sym (none_placed (all_of (start t))) k)) (orders (sym (all_left (all_of (start t))) k)))
 
 -- a list with an order of n numbers at its front
 whole : (n : ℕ) (list : List ℕ) → take n list ++ drop n list ≡ list
@@ -107,9 +112,9 @@ module _ {K : Type 0} (alike : K → K → Bool) (es : List (Entry K)) (list : L
       ∙ cond-false (ltb (length list) many) (Some ListShort) None (le-ltb (length list) many (omega (arith, ap length us_committed, room)))
 
   -- all of them are left at the start
-  pub start_long : (t : Constraints) → Holds alike es t → length (left_of t (replicate 64 false)) ≡ length (take (length us) list)
+  pub start_long : (t : Constraints) → Holds alike es t → length (left_of (start t)) ≡ length (take (length us) list)
   start_long t holds =
-      ap length (all_left (all_of t) ∙ (λ i. among (λ n. holds.cues n i)) ∙ sym us_committed) ∙ sym (length-take-le (length us) list room)
+      ap length (all_left (all_of (start t)) ∙ (λ i. among (λ n. holds.cues n i)) ∙ sym us_committed) ∙ sym (length-take-le (length us) list room)
 
   module _ (v : Option (List ℕ)) (e : view_order alike es ≡ v) where
     long : (o : List ℕ) → v ≡ Some o → length o ≡ length us

@@ -17,10 +17,9 @@ use Rattle.history.proofs.Committed.{is_cue_lem}
 use Rattle.equivalence.specs.Extending.{may_come, fits_after}
 use Rattle.equivalence.proofs.Serial.{has_stands}
 use Rattle.equivalence.proofs.Extended.{try_one, try_all, first_by_branches}
-use Rattle.views.specs.declared.constraints.Constraints.{Constraints}
-use Rattle.views.specs.Tables.{ahead_in, apart_in}
+use Rattle.views.specs.declared.extending.Placing.{Placing}
 use Rattle.views.specs.Answer.{filled}
-use Rattle.views.specs.Shown.{all_of, placed_of, left_of, rest_of}
+use Rattle.views.specs.Shown.{all_of, placed_of, left_of, ahead_by, apart_by, rest_of}
 use Rattle.views.proofs.Leaving.{left_in, left_set, placed_set}
 
 -- an order fits by what was seen, in whatever order it was
@@ -56,23 +55,23 @@ found_none None h = refl
 found_none (Some o) h = absurd (both_ways true h refl)
 
 -- the members
-pub members_distinct : (t : Constraints) → Distinct (all_of t)
-members_distinct t = distinct_among (marked t.members.cues)
+pub members_distinct : (p : Placing) → Distinct (all_of p)
+members_distinct p = distinct_among (marked p.constraints.now.members.cues)
 
-pub members_cues : (t : Constraints) → All (λ n. is_cue n ≡ true) (all_of t)
-members_cues t =
-    All-weaker (λ m. (1 ≤ m) × (m ≤ 64) × (marked t.members.cues m ≡ true)) (λ m. is_cue m ≡ true) (λ m k. is_cue_lem m k.0 k.1) (all_of t) (among_all (marked t.members.cues))
+pub members_cues : (p : Placing) → All (λ n. is_cue n ≡ true) (all_of p)
+members_cues p =
+    All-weaker (λ m. (1 ≤ m) × (m ≤ 64) × (marked p.constraints.now.members.cues m ≡ true)) (λ m. is_cue m ≡ true) (λ m k. is_cue_lem m k.0 k.1) (all_of p) (among_all (marked p.constraints.now.members.cues))
 
-module _ (t : Constraints) (table : List Bool) where
+module _ (p : Placing) where
   -- the first order that starts with one of the cues xs
   abbrev pub Tried : List ℕ → Option (List ℕ)
-  Tried xs = try_all (ahead_in t) (apart_in t) (placed_of t table) (left_of t table) (left_in xs table)
+  Tried xs = try_all (ahead_by p) (apart_by p) (placed_of p) (left_of p) (left_in xs p.placed)
 
-  module _ (cues : List ℕ) (is : cues ≡ all_of t) where
-    pub rest_tried : 0 < length (left_of t table) → Tried cues ≡ rest_of t table
+  module _ (cues : List ℕ) (is : cues ≡ all_of p) where
+    pub rest_tried : 0 < length (left_of p) → Tried cues ≡ rest_of p
     rest_tried h =
         ap Tried is
-        ∙ sym (first_by_branches (ahead_in t) (apart_in t) (placed_of t table) (left_of t table) (distinct_kept (λ n. not (marked table n)) (all_of t) (members_distinct t))
+        ∙ sym (first_by_branches (ahead_by p) (apart_by p) (placed_of p) (left_of p) (distinct_kept (λ n. not (marked p.placed n)) (all_of p) (members_distinct p))
         (λ e. omega (arith, h, ap length e)))
 
     -- the cue with index k is next
@@ -81,64 +80,64 @@ module _ (t : Constraints) (table : List Bool) where
       x = get_or cues k 0
 
       abbrev One : Option (List ℕ)
-      One = try_one (ahead_in t) (apart_in t) (placed_of t table) (left_of t table) x
+      One = try_one (ahead_by p) (apart_by p) (placed_of p) (left_of p) x
 
-      abbrev Next : List Bool
-      Next = set table (x - 1) true
+      abbrev Next : Placing
+      Next = record { constraints = p.constraints; placed = set p.placed (x - 1) true }
 
       abbrev May : Bool
-      May = may_come (ahead_in t) (apart_in t) (placed_of t table) x (without x (left_of t table))
+      May = may_come (ahead_by p) (apart_by p) (placed_of p) x (without x (left_of p))
 
       -- the first order of the others after it
       abbrev Others : Option (List ℕ)
-      Others = first_where (fits_after (ahead_in t) (apart_in t) (x ∷ placed_of t table)) (orders (without x (left_of t table)))
+      Others = first_where (fits_after (ahead_by p) (apart_by p) (x ∷ placed_of p)) (orders (without x (left_of p)))
 
       pub next_cue : is_cue x ≡ true
-      next_cue = All-get_or (λ n. is_cue n ≡ true) cues k 0 h (subst (All (λ n. is_cue n ≡ true)) (sym is) (members_cues t))
+      next_cue = All-get_or (λ n. is_cue n ≡ true) cues k 0 h (subst (All (λ n. is_cue n ≡ true)) (sym is) (members_cues p))
 
-      there : has x (all_of t) ≡ true
+      there : has x (all_of p) ≡ true
       there = subst (λ (us : List ℕ). has x us ≡ true) is (has_at cues k h)
 
-      left_tried : marked table x ≡ false → Tried (drop k cues) ≡ or_else One (Tried (drop (k + 1) cues))
+      left_tried : marked p.placed x ≡ false → Tried (drop k cues) ≡ or_else One (Tried (drop (k + 1) cues))
       left_tried n = at_drop_more Tried cues k 0 h ∙ step
         where
           step : Tried (x ∷ drop (k + 1) cues) ≡ or_else One (Tried (drop (k + 1) cues))
           step = rw n refl
 
-      pub past_placed : marked table x ≡ true → Tried (drop k cues) ≡ rest_of t table → Tried (drop (k + 1) cues) ≡ rest_of t table
+      pub past_placed : marked p.placed x ≡ true → Tried (drop k cues) ≡ rest_of p → Tried (drop (k + 1) cues) ≡ rest_of p
       past_placed m inv = sym step ∙ sym (at_drop_more Tried cues k 0 h) ∙ inv
         where
           step : Tried (x ∷ drop (k + 1) cues) ≡ Tried (drop (k + 1) cues)
           step = rw m refl
 
-      pub past_barred : marked table x ≡ false → May ≡ false → Tried (drop k cues) ≡ rest_of t table → Tried (drop (k + 1) cues) ≡ rest_of t table
+      pub past_barred : marked p.placed x ≡ false → May ≡ false → Tried (drop k cues) ≡ rest_of p → Tried (drop (k + 1) cues) ≡ rest_of p
       past_barred n f inv =
           sym (left_tried n ∙ ap (λ (o : Option (List ℕ)). or_else o (Tried (drop (k + 1) cues))) (cond-false May (option_map (λ o. x ∷ o) Others) None f)) ∙ inv
 
-      module _ (long : length table ≡ 64) (n : marked table x ≡ false) where
-        rest_next : rest_of t Next ≡ Others
+      module _ (long : length p.placed ≡ 64) (n : marked p.placed x ≡ false) where
+        rest_next : rest_of Next ≡ Others
         rest_next =
-            first_alike (fits_after (ahead_in t) (apart_in t) (placed_of t Next)) (fits_after (ahead_in t) (apart_in t) (x ∷ placed_of t table))
-            (λ o. fits_seen (ahead_in t) (apart_in t) o (placed_of t Next) (x ∷ placed_of t table) (placed_set table long x next_cue (all_of t) (members_cues t) there)) (orders (left_of t Next))
-            ∙ ap (λ (us : List ℕ). first_where (fits_after (ahead_in t) (apart_in t) (x ∷ placed_of t table)) (orders us)) (left_set table long x next_cue (all_of t) (members_cues t))
+            first_alike (fits_after (ahead_by p) (apart_by p) (placed_of Next)) (fits_after (ahead_by p) (apart_by p) (x ∷ placed_of p))
+            (λ o. fits_seen (ahead_by p) (apart_by p) o (placed_of Next) (x ∷ placed_of p) (placed_set p.placed long x next_cue (all_of p) (members_cues p) there)) (orders (left_of Next))
+            ∙ ap (λ (us : List ℕ). first_where (fits_after (ahead_by p) (apart_by p) (x ∷ placed_of p)) (orders us)) (left_set p.placed long x next_cue (all_of p) (members_cues p))
 
         -- one less is left
-        pub left_less : length (left_of t table) ≡ suc (length (left_of t Next))
+        pub left_less : length (left_of p) ≡ suc (length (left_of Next))
         left_less =
-            length_without x (left_of t table) (distinct_kept (λ m. not (marked table m)) (all_of t) (members_distinct t))
-            (has_stands x (left_of t table) (has_kept (λ m. not (marked table m)) x (all_of t) there (not_from_false (marked table x) n)))
-            ∙ ap (λ (us : List ℕ). suc (length us)) (sym (left_set table long x next_cue (all_of t) (members_cues t)))
+            length_without x (left_of p) (distinct_kept (λ m. not (marked p.placed m)) (all_of p) (members_distinct p))
+            (has_stands x (left_of p) (has_kept (λ m. not (marked p.placed m)) x (all_of p) there (not_from_false (marked p.placed x) n)))
+            ∙ ap (λ (us : List ℕ). suc (length us)) (sym (left_set p.placed long x next_cue (all_of p) (members_cues p)))
 
-        one_next : May ≡ true → One ≡ option_map (λ o. x ∷ o) (rest_of t Next)
+        one_next : May ≡ true → One ≡ option_map (λ o. x ∷ o) (rest_of Next)
         one_next y = cond-true May (option_map (λ o. x ∷ o) Others) None y ∙ ap (option_map (λ o. x ∷ o)) (sym rest_next)
 
-        pub past_tried : May ≡ true → is_some (rest_of t Next) ≡ false → Tried (drop k cues) ≡ rest_of t table → Tried (drop (k + 1) cues) ≡ rest_of t table
+        pub past_tried : May ≡ true → is_some (rest_of Next) ≡ false → Tried (drop k cues) ≡ rest_of p → Tried (drop (k + 1) cues) ≡ rest_of p
         past_tried y f inv =
-            sym (left_tried n ∙ ap (λ (o : Option (List ℕ)). or_else o (Tried (drop (k + 1) cues))) (one_next y ∙ ap (option_map (λ o. x ∷ o)) (found_none (rest_of t Next) f))) ∙ inv
+            sym (left_tried n ∙ ap (λ (o : Option (List ℕ)). or_else o (Tried (drop (k + 1) cues))) (one_next y ∙ ap (option_map (λ o. x ∷ o)) (found_none (rest_of Next) f))) ∙ inv
 
-        pub rest_found : May ≡ true → is_some (rest_of t Next) ≡ true → Tried (drop k cues) ≡ rest_of t table → rest_of t table ≡ option_map (λ o. x ∷ o) (rest_of t Next)
+        pub rest_found : May ≡ true → is_some (rest_of Next) ≡ true → Tried (drop k cues) ≡ rest_of p → rest_of p ≡ option_map (λ o. x ∷ o) (rest_of Next)
         rest_found y f inv =
-            sym inv ∙ left_tried n ∙ ap (λ (o : Option (List ℕ)). or_else o (Tried (drop (k + 1) cues))) (one_next y) ∙ kept (rest_of t Next) f
+            sym inv ∙ left_tried n ∙ ap (λ (o : Option (List ℕ)). or_else o (Tried (drop (k + 1) cues))) (one_next y) ∙ kept (rest_of Next) f
           where
             kept : (rest : Option (List ℕ)) → is_some rest ≡ true → or_else (option_map (λ o. x ∷ o) rest) (Tried (drop (k + 1) cues)) ≡ option_map (λ o. x ∷ o) rest
             kept None h = absurd (both_ways false refl h)

@@ -4,8 +4,7 @@ ghost use Rattle.equivalence.specs.Extending.{may_come};
 ghost use Rattle.lists.specs.Lists.{some};
 ghost use Rattle.orders.specs.Orders.{without};
 ghost use Rattle.views.specs.Answer.{filled};
-ghost use Rattle.views.specs.Shown.{placed_of, left_of, rest_of};
-ghost use Rattle.views.specs.Tables.{ahead_in, apart_in};
+ghost use Rattle.views.specs.Shown.{placed_of, left_of, ahead_by, apart_by, rest_of};
 
 use crate::constraints::Constraints;
 use history::is_marked;
@@ -20,7 +19,7 @@ pub struct Placing<'a> {
 impl<'a> Placing<'a> {
     // Whether one of the other cues that are left must come before `x`.
     fn is_led(&self, x: u32) -> bool
-        ensures { result ≡ some (λ i. ahead_in self.now.constraints.now i x) (without x (left_of self.now.constraints.now self.now.placed)) }
+        ensures { result ≡ some (λ i. ahead_by self.now i x) (without x (left_of self.now)) }
     {
         self.constraints
             .members
@@ -33,7 +32,7 @@ impl<'a> Placing<'a> {
 
     // Whether `x` must not stand between `j` and one of the other cues that are left.
     fn is_held(&self, j: u32, x: u32) -> bool
-        ensures { result ≡ some (λ i. apart_in self.now.constraints.now j i x) (without x (left_of self.now.constraints.now self.now.placed)) }
+        ensures { result ≡ some (λ i. apart_by self.now j i x) (without x (left_of self.now)) }
     {
         self.constraints
             .members
@@ -46,7 +45,7 @@ impl<'a> Placing<'a> {
 
     // The same for one of the cues that are placed.
     fn is_barred(&self, x: u32) -> bool
-        ensures { result ≡ some (λ j. some (λ i. apart_in self.now.constraints.now j i x) (without x (left_of self.now.constraints.now self.now.placed))) (placed_of self.now.constraints.now self.now.placed) }
+        ensures { result ≡ some (λ j. some (λ i. apart_by self.now j i x) (without x (left_of self.now))) (placed_of self.now) }
     {
         self.constraints
             .members
@@ -59,16 +58,16 @@ impl<'a> Placing<'a> {
     // Whether a cue that is left may come next: none of the others that are left must come before it, and it must not stand between
     // a cue that is placed and one that is left.
     fn may_come(&self, x: u32) -> bool
-        ensures { result ≡ may_come (ahead_in self.now.constraints.now) (apart_in self.now.constraints.now) (placed_of self.now.constraints.now self.now.placed) x (without x (left_of self.now.constraints.now self.now.placed)) }
+        ensures { result ≡ may_come (ahead_by self.now) (apart_by self.now) (placed_of self.now) x (without x (left_of self.now)) }
     {
         !self.is_led(x) && !self.is_barred(x)
     }
 
     // Fills the list with the first order of the cues left that keeps the constraints, if there is one.
     pub fn extend(&self, list: &mut [u32]) -> bool
-        requires { length (left_of self.now.constraints.now self.now.placed) ≡ length list.old }
-        ensures found { result ≡ is_some (rest_of self.now.constraints.now self.now.placed) }
-        ensures list { list.new ≡ filled (rest_of self.now.constraints.now self.now.placed) list.old }
+        requires { length (left_of self.now) ≡ length list.old }
+        ensures found { result ≡ is_some (rest_of self.now) }
+        ensures list { list.new ≡ filled (rest_of self.now) list.old }
     {
         let Some((first, rest)) = list.split_first_mut() else {
             return true;

@@ -2,7 +2,7 @@ use Rattle.std.proofs.Common.{◌++◌, false, length, drop, replicate, None, Ok
 use Rattle.std.specs.Bool.{then_some}
 use Rattle.equivalence.specs.Laws.{Sameness}
 use Rattle.views.specs.Shown.{rest_of}
-use Rattle.views.proofs.Answering.{view_hidden, view_shown, start_long, taken_answer, taken_list, none_list}
+use Rattle.views.proofs.Answering.{start, view_hidden, view_shown, start_long, taken_answer, taken_list, none_list}
 use Rattle.views.proofs.views_of.Given.{Over}
 use Rattle.views.proofs.views_of.Goals as goal
 
@@ -35,7 +35,7 @@ returns g c =
     let m = c.in-Some.members in
     let us = c.numbers-count.result.now in
     let t = c.in-Some-constraints_of.constraints in
-    let rest = rest_of t (replicate 64 false) in
+    let rest = rest_of (start t) in
     let found = view_shown alike (sameness g) es t c.in-Some-constraints_of.ensures in
     record {
       answer = ap (λ o. Ok o) (c.then_some.ensures ∙ ap (λ b. then_some b (length us)) c.extend-found.ensures.found)

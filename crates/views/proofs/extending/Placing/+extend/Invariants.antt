@@ -9,4 +9,4 @@ decreases-extend l = length l.list.now
 abbrev pub invariant-loop-x : goal.invariant-loop-x
 invariant-loop-x l =
     (l.first ≡ l.initial.first) × (l.rest ≡ l.initial.rest)
-    × (Tried l.self.constraints.now l.self.placed (drop l.x-index l.x-items) ≡ rest_of l.self.constraints.now l.self.placed)
+    × (Tried l.self (drop l.x-index l.x-items) ≡ rest_of l.self)
