@@ -6,7 +6,7 @@ use Rattle.history.proofs.Committed.{cue_high}
 use Rattle.history.proofs.Marks.{marked_cue}
 use Rattle.views.specs.declared.constraints.Constraints.{Constraints}
 use Rattle.views.specs.declared.members.Members.{Members}
-use Rattle.views.specs.Noted.{Notes, Member, Within, none_ahead, none_apart, first, PutsAhead, PutsApart, split}
+use Rattle.views.specs.Noted.{Notes, Member, Within, none_ahead, none_apart, other, first, PutsAhead, PutsApart, third, split}
 use Rattle.views.proofs.Noting.{notes_same, notes_two, upto_more, upto_past}
 
 marked_low : (table : List Bool) (n : ℕ) → marked table n ≡ true → n < 65
@@ -17,53 +17,45 @@ pub same_member : (t t' : Constraints) → t'.members ≡ t.members → (n : ℕ
 same_member t t' e n m = subst (λ (ms : Members). marked ms.cues n ≡ true) (sym e) m
 
 module _ (t : Constraints) (reader : ℕ) (writers : List Bool) where
-  -- a writer other than the reader
-  abbrev pub other : ℕ → Bool
-  other b = not (eqb b reader) && marked writers b
-
   -- the reader comes before those below n
   abbrev pub FirstUpto : ℕ → Constraints → Type 0
   FirstUpto n t' = Member t reader → Within writers t → Notes (λ a b. first reader writers a b && ltb b n) none_apart t t'
 
   module _ (n : ℕ) (t' : Constraints) (had : FirstUpto n t') where
-    pub first_more : (t'' : Constraints) → other n ≡ true → PutsAhead t' t'' reader n → FirstUpto (n + 1) t''
+    pub first_more : (t'' : Constraints) → other reader writers n ≡ true → PutsAhead t' t'' reader n → FirstUpto (n + 1) t''
     first_more t'' e put cr within =
         let so_far = had cr within in
         let cn = within n (and_parts (not (eqb n reader)) (marked writers n) e).1 in
         let now = put (same_member t t' so_far.members reader cr) (same_member t t' so_far.members n cn) in
         notes_same (λ a b. (first reader writers a b && ltb b n) || (eqb a reader && eqb b n)) (λ a b. first reader writers a b && ltb b (n + 1)) none_apart none_apart t t''
-        (λ a b. upto_more (eqb a reader) other n e b) (λ j r m. refl)
+        (λ a b. upto_more (eqb a reader) (other reader writers) n e b) (λ j r m. refl)
         (notes_two (λ a b. first reader writers a b && ltb b n) (λ a b. eqb a reader && eqb b n) none_apart none_apart t t' t'' so_far now)
 
-    pub first_past : other n ≡ false → FirstUpto (n + 1) t'
+    pub first_past : other reader writers n ≡ false → FirstUpto (n + 1) t'
     first_past e cr within =
         notes_same (λ a b. first reader writers a b && ltb b n) (λ a b. first reader writers a b && ltb b (n + 1)) none_apart none_apart t t'
-        (λ a b. upto_past (eqb a reader) other n e b) (λ j r m. refl) (had cr within)
+        (λ a b. upto_past (eqb a reader) (other reader writers) n e b) (λ j r m. refl) (had cr within)
 
 module _ (t : Constraints) (source reader : ℕ) (earlier later : List Bool) where
-  -- a writer other than these two
-  abbrev pub third : ℕ → Bool
-  third n = (not (eqb n source) && not (eqb n reader)) && (marked earlier n || marked later n)
-
   -- those below m do not stand between the source and the reader
   abbrev pub BetweenUpto : ℕ → Constraints → Type 0
   BetweenUpto m t' = Member t source → Member t reader → Within earlier t → Within later t → Notes none_ahead (λ j r n. split source reader earlier later j r n && ltb n m) t t'
 
-  third_is : (n : ℕ) → third n ≡ true → (marked earlier n ≡ true) ⊎ (marked later n ≡ true)
+  third_is : (n : ℕ) → third source reader earlier later n ≡ true → (marked earlier n ≡ true) ⊎ (marked later n ≡ true)
   third_is n e = or_cases (marked earlier n) (marked later n) (and_parts (not (eqb n source) && not (eqb n reader)) (marked earlier n || marked later n) e).1
 
   module _ (m : ℕ) (t' : Constraints) (had : BetweenUpto m t') where
-    pub between_more : (t'' : Constraints) → third m ≡ true → PutsApart t' t'' source reader m → BetweenUpto (m + 1) t''
+    pub between_more : (t'' : Constraints) → third source reader earlier later m ≡ true → PutsApart t' t'' source reader m → BetweenUpto (m + 1) t''
     between_more t'' e put cs cr we wl =
         let so_far = had cs cr we wl in
         let cm : Member t m = elim (third_is m e) [ inl x ↦ we m x | inr x ↦ wl m x ] in
         let same = same_member t t' so_far.members in
         let now = put (same source cs) (same reader cr) (same m cm) in
         notes_same none_ahead none_ahead (λ j r n. (split source reader earlier later j r n && ltb n m) || ((eqb j source && eqb r reader) && eqb n m)) (λ j r n. split source reader earlier later j r n && ltb n (m + 1)) t t''
-        (λ a b. refl) (λ j r n. upto_more (eqb j source && eqb r reader) third m e n)
+        (λ a b. refl) (λ j r n. upto_more (eqb j source && eqb r reader) (third source reader earlier later) m e n)
         (notes_two none_ahead none_ahead (λ j r n. split source reader earlier later j r n && ltb n m) (λ j r n. (eqb j source && eqb r reader) && eqb n m) t t' t'' so_far now)
 
-    pub between_past : third m ≡ false → BetweenUpto (m + 1) t'
+    pub between_past : third source reader earlier later m ≡ false → BetweenUpto (m + 1) t'
     between_past e cs cr we wl =
         notes_same none_ahead none_ahead (λ j r n. split source reader earlier later j r n && ltb n m) (λ j r n. split source reader earlier later j r n && ltb n (m + 1)) t t'
-        (λ a b. refl) (λ j r n. upto_past (eqb j source && eqb r reader) third m e n) (had cs cr we wl)
+        (λ a b. refl) (λ j r n. upto_past (eqb j source && eqb r reader) (third source reader earlier later) m e n) (had cs cr we wl)

@@ -33,16 +33,24 @@ PutsAhead t t' a b = Member t a → Member t b → Notes (λ x y. x == a && y ==
 abbrev pub PutsApart : Constraints → Constraints → ℕ → ℕ → ℕ → Type 0
 PutsApart t t' j r n = Member t j → Member t r → Member t n → Notes none_ahead (λ x y z. (x == j && y == r) && z == n) t t'
 
+-- a writer other than the reader
+abbrev pub other : ℕ → List Bool → ℕ → Bool
+other reader writers n = not (n == reader) && marked writers n
+
 -- the reader comes before each other writer
 abbrev pub first : ℕ → List Bool → ℕ → ℕ → Bool
-first reader writers a b = a == reader && (not (b == reader) && marked writers b)
+first reader writers a b = a == reader && other reader writers b
 
 abbrev pub PutsFirst : Constraints → Constraints → ℕ → List Bool → Type 0
 PutsFirst t t' reader writers = Member t reader → Within writers t → Notes (first reader writers) none_apart t t'
 
+-- a writer other than these two
+abbrev pub third : ℕ → ℕ → List Bool → List Bool → ℕ → Bool
+third source reader earlier later n = (not (n == source) && not (n == reader)) && (marked earlier n || marked later n)
+
 -- no other writer stands between the source and the reader
 abbrev pub split : ℕ → ℕ → List Bool → List Bool → ℕ → ℕ → ℕ → Bool
-split source reader earlier later j r n = (j == source && r == reader) && ((not (n == source) && not (n == reader)) && (marked earlier n || marked later n))
+split source reader earlier later j r n = (j == source && r == reader) && third source reader earlier later n
 
 abbrev pub PutsBetween : Constraints → Constraints → ℕ → ℕ → List Bool → List Bool → Type 0
 PutsBetween t t' source reader earlier later = Member t source → Member t reader → Within earlier t → Within later t → Notes none_ahead (split source reader earlier later) t t'

@@ -1,9 +1,9 @@
 // What a view-equivalent order must keep, derived from the book once.
-ghost use Rattle.std.specs.Prelude.{◌≡◌, ℕ, true, ◌||◌};
+ghost use Rattle.std.specs.Prelude.{◌≡◌, ℕ, true};
 ghost use Rattle.history.specs.Entries.{committed};
 ghost use Rattle.history.specs.Marked.{marked};
 ghost use Rattle.equivalence.specs.Constraints.{writer, last_writer};
-ghost use Rattle.views.specs.Noted.{PutsAhead, PutsApart, PutsFirst, PutsBetween, AskedRead, AskedWrite};
+ghost use Rattle.views.specs.Noted.{other, PutsAhead, PutsApart, PutsFirst, third, PutsBetween, AskedRead, AskedWrite};
 ghost use Rattle.views.specs.Tables.{ahead_in, apart_in, Asked, Derived};
 
 use crate::members::Members;
@@ -45,11 +45,18 @@ impl Members {
     }
 }
 
-// Whether one of two tables has the cue.
-fn either_has(one: &[bool; 64], other: &[bool; 64], n: u32) -> bool
-    ensures { result ≡ (marked one.now n || marked other.now n) }
+// Whether a cue is a writer other than the reader.
+fn is_other(reader: u32, writers: &[bool; 64], n: u32) -> bool
+    ensures { result ≡ other reader writers.now n }
 {
-    is_marked(one, n) || is_marked(other, n)
+    n != reader && is_marked(writers, n)
+}
+
+// Whether a cue is a writer other than the cue of the source and the reader.
+fn is_third(source: u32, reader: u32, earlier: &[bool; 64], later: &[bool; 64], n: u32) -> bool
+    ensures { result ≡ third source reader earlier.now later.now n }
+{
+    n != source && n != reader && (is_marked(earlier, n) || is_marked(later, n))
 }
 
 impl Constraints {
@@ -92,7 +99,7 @@ impl Constraints {
         ensures { PutsFirst self.old self.new reader writers.now }
     {
         for n in 1..65u32 {
-            if n != reader && is_marked(writers, n) {
+            if is_other(reader, writers, n) {
                 self.put_ahead(reader, n);
             }
         }
@@ -103,7 +110,7 @@ impl Constraints {
         ensures { PutsBetween self.old self.new source reader earlier.now later.now }
     {
         for n in 1..65u32 {
-            if n != source && n != reader && either_has(earlier, later, n) {
+            if is_third(source, reader, earlier, later, n) {
                 self.put_apart(source, reader, n);
             }
         }

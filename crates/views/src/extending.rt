@@ -17,7 +17,8 @@ pub struct Placing<'a> {
 }
 
 impl<'a> Placing<'a> {
-    // Whether one of the other cues that are left must come before `x`.
+    // Whether one of the other cues that are left must come before `x`. Apart from `is_held`, as a chain that calls a test which is handed
+    // in leaves its goal open.
     fn is_led(&self, x: u32) -> bool
         ensures { result ≡ some (λ i. ahead_by self.now i x) (without x (left_of self.now)) }
     {
