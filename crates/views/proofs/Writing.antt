@@ -13,6 +13,7 @@ use Rattle.history.specs.Conflicts.{writes}
 use Rattle.history.specs.Entries.{is_cue}
 use Rattle.history.specs.Marked.{marked}
 use Rattle.history.proofs.Committed.{cue_low, cue_high}
+use Rattle.history.proofs.Marks.{marked_cue}
 use Rattle.equivalence.specs.Constraints.{sets, writer, last_writer}
 
 pub marked_none : (n : ℕ) → marked (replicate 64 false) n ≡ false
@@ -46,6 +47,10 @@ marked_set found m n long cue =
           ] in
           same ∙ sym (or-false (marked found n)) ∙ ap (λ (b : Bool). marked found n || b) (sym (ne_eqb m n ne))
     ]
+
+-- such a write is of a cue
+pub sets_cue : {K : Type 0} (alike : K → K → Bool) (cues : List Bool) (k : K) (w : Entry K) → true ≡ sets alike (marked cues) k w → is_cue w.cue ≡ true
+sets_cue alike cues k w h = marked_cue cues w.cue (and_parts (marked cues w.cue) (writes (alike k) w.act) (sym h)).0
 
 module _ {K : Type 0} (alike : K → K → Bool) (c : ℕ → Bool) (k : K) where
   -- a writer is one of the cues asked for

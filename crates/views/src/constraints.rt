@@ -2,7 +2,7 @@
 ghost use Rattle.std.specs.Prelude.{◌≡◌, ℕ, true};
 ghost use Rattle.history.specs.Entries.{committed};
 ghost use Rattle.history.specs.Marked.{marked};
-ghost use Rattle.equivalence.specs.Constraints.{writer, last_writer};
+ghost use Rattle.equivalence.specs.Constraints.{sets, writer, last_writer};
 ghost use Rattle.views.specs.Noted.{other, PutsAhead, PutsApart, PutsFirst, third, PutsBetween, AskedRead, AskedWrite};
 ghost use Rattle.views.specs.Tables.{ahead_in, apart_in, Asked, Derived};
 
@@ -29,6 +29,13 @@ struct Writers {
 }
 
 impl Members {
+    // Whether the entry is a write of the item by one of the cues.
+    fn sets<K: Item>(&self, w: &Entry<K>, item: K) -> bool
+        ensures { result ≡ sets K.Item.alike (marked self.now.cues) item w.now }
+    {
+        self.has(w.cue) && writes_item(&w.act, item)
+    }
+
     fn writers_of<K: Item>(&self, part: &[Entry<K>], item: K) -> Writers
         ensures marks { (n : ℕ) → marked result.cues n ≡ writer K.Item.alike (marked self.now.cues) item part.now n }
         ensures last { result.last ≡ last_writer K.Item.alike (marked self.now.cues) item part.now }
@@ -36,7 +43,7 @@ impl Members {
         let mut cues = [false; 64];
         let mut last = None;
         for w in part {
-            if self.has(w.cue) && writes_item(&w.act, item) {
+            if self.sets(w, item) {
                 cues[w.cue as usize - 1] = true;
                 last = Some(w.cue);
             }

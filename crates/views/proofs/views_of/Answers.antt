@@ -1,4 +1,4 @@
-use Rattle.std.proofs.Common.{◌++◌, false, length, drop, replicate, None, Ok, refl, ap, ◌∙◌}
+use Rattle.std.proofs.Common.{◌++◌, length, drop, None, Ok, refl, ap, ◌∙◌}
 use Rattle.std.specs.Bool.{then_some}
 use Rattle.equivalence.specs.Laws.{Sameness}
 use Rattle.views.specs.Shown.{rest_of}
