@@ -39,13 +39,14 @@ abbrev pub apart_in : Constraints → ℕ → ℕ → ℕ → Bool
 apart_in t j r n = told t.apart (triple_in t.members.cues j r n)
 
 module _ {K : Type 0} (alike : K → K → Bool) where
-  -- what the entry e asks: none where it is hidden, and else the tables have what they had, and what it asks
+  -- the tables have what they had, and what the entry e asks, whose source is not hidden
   pub record Asks (t t' : Constraints) (before : List (Entry K)) (e : Entry K) (after : List (Entry K)) : Type 0 where
     pub members : t'.members ≡ t.members
     pub shown : hides alike (marked t.members.cues) before e after ≡ false
     pub ahead : (a b : ℕ) → ahead_in t' a b ≡ (ahead_in t a b || ahead alike (marked t.members.cues) a b before e after)
     pub apart : (j r n : ℕ) → apart_in t' j r n ≡ (apart_in t j r n || apart alike (marked t.members.cues) j r n before e after)
 
+  -- the same, or none where the source is hidden in every order
   abbrev pub Asked : Constraints → Constraints → List (Entry K) → Entry K → List (Entry K) → Option (Unit {0}) → Type 0
   Asked t t' before e after None = hides alike (marked t.members.cues) before e after ≡ true
   Asked t t' before e after (Some u) = Asks t t' before e after
