@@ -44,12 +44,12 @@ pub enum Step<K> {
     Write(K),
 }
 
-impl<K> Step<K> {
-    // The act that it is.
-    pub fn act(self) -> Act<K>
-        ensures { result ≡ stepped self }
-    {
-        match self {
+// The act that a step is.
+impl<K> From<Step<K>> for Act<K> {
+    ghost from_gives = { λ f r. r ≡ stepped f };
+
+    fn from(step: Step<K>) -> Act<K> {
+        match step {
             Step::Read(item) => Act::Read(item),
             Step::Write(item) => Act::Write(item),
         }
@@ -76,7 +76,7 @@ impl<'a, K: Copy> Book<'a, K> {
         ensures grows { accepted self.new ≡ grown result (under ticket.now (stepped step)) (accepted self.old) }
         ensures lays { Lays self.old self.new }
     {
-        self.enter(ticket.entry_of(step.act()))
+        self.enter(ticket.entry_of(Act::from(step)))
     }
 
     // Ends the ticket's cue and gives a receipt for the ticket, or gives the ticket back with the refusal.
