@@ -1,7 +1,8 @@
 -- The steps of reading a sheet in. Assumes nothing.
-use Rattle.std.proofs.Common.{◌≡◌, ℕ, suc, ◌+◌, ◌/◌, ◌<◌, true, false, List, [], ◌∷◌, ◌++◌, length, take, drop, Some, None, Ok, Err, Option, Result, sym, refl, ap, ◌∙◌, arith}
-use Rattle.std.proofs.lemmas.List.{length-drop, length_push}
-use Rattle.std.proofs.lemmas.Bool.{false≢true}
+use Rattle.std.proofs.Common.{◌≡◌, ℕ, suc, ◌+◌, ◌/◌, ◌<◌, min, List, [], ◌∷◌, ◌++◌, length, take, drop, Some, None, Ok, Err, Option, Result, subst, sym, refl, ap, ◌∙◌, arith}
+use Rattle.std.specs.Result.{MatchResult, IsErrAnd}
+use Rattle.std.proofs.lemmas.List.{length-drop, length_push, take_at, drop_at}
+use Rattle.lists.proofs.Takes.{take_min, drop_min}
 use Rattle.refusals.specs.declared.LineRefusal.{LineRefusal}
 use Rattle.refusals.specs.declared.Refusal.{Refusal}
 use Rattle.history.specs.declared.Entry.{Entry}
@@ -21,6 +22,23 @@ lines_more bs h =
     let left = length-drop 16 bs in
     let next : (length bs + 15) / 16 ≡ suc ((length (drop 16 bs) + 15) / 16) = omega arith in
     ap (λ (n : ℕ). lines_by n bs) next
+
+-- what `map_err` made of an error
+pub err_mapped : {T D E : Type 0} {Q : E → D → Type 0} (r : Result T E) (s : Result T D) (f : E → D) → MatchResult r (λ x. s ≡ Ok x) (λ e. IsErrAnd s (Q e)) → ((e : E) (d : D) → Q e d → d ≡ f e) → (d : D) → s ≡ Err d → (e : E) × (r ≡ Err e) × (d ≡ f e)
+err_mapped (Ok x) s f cases made d is = absurd (let z : ◌≡◌ {A = ℕ} 0 1 = cc in omega arith)
+err_mapped {Q} (Err e) s f cases made d is = (e, refl, made e d (subst (λ r. IsErrAnd r (Q e)) is cases))
+
+-- a line that was cut off what remained
+pub record Cut (line after rest : List ℕ) : Type 0 where
+  pub first : line ≡ take 16 rest
+  pub others : after ≡ drop 16 rest
+
+pub cut : (line after rest : List ℕ) → rest ≡ line ++ after → length line ≡ min 16 (length rest) → Cut line after rest
+cut line after rest is long =
+    record {
+      first = sym (ap (take (length line)) is ∙ take_at line after (length line) refl) ∙ ap (λ (n : ℕ). take n rest) long ∙ take_min 16 rest;
+      others = sym (ap (drop (length line)) is ∙ drop_at line after (length line) refl) ∙ ap (λ (n : ℕ). drop n rest) long ∙ drop_min 16 rest;
+    }
 
 module _ {K : Type 0} (parsed : List ℕ → Option K) (places : ℕ) (es : List (Entry K)) where
   -- what follows from the line that was read, or from the end
@@ -47,8 +65,7 @@ module _ {K : Type 0} (parsed : List ℕ → Option K) (places : ℕ) (es : List
   next_book bs e r is was = from_next_lem bs ∙ ap from_next is ∙ ap (λ (x : Result ℕ Refusal). some parsed (of_book e x)) was
 
   -- the first line of what remains, by what came of it
-
-  entry_some : (r : Result (Entry K) Layer) → told (some parsed r) ≡ Ok true → (e : Entry K) × (r ≡ Ok e)
+  entry_some : (r : Result (Entry K) Layer) → told (some parsed r) ≡ Ok tt → (e : Entry K) × (r ≡ Ok e)
   entry_some (Ok e) h = (e, refl)
   entry_some (Err f) h = absurd (let z : ◌≡◌ {A = ℕ} 0 1 = cc in omega arith)
 
@@ -56,15 +73,7 @@ module _ {K : Type 0} (parsed : List ℕ → Option K) (places : ℕ) (es : List
   fault_some (Ok e) f h = absurd (let z : ◌≡◌ {A = ℕ} 0 1 = cc in omega arith)
   fault_some (Err g) f h = let is : g ≡ f = cc in ap Err is
 
-  never_end : (r : Result (Entry K) Layer) → told (some parsed r) ≡ Ok false → ⊥
-  never_end (Ok e) h = let z : true ≡ false = cc in let y : ◌≡◌ {A = ℕ} 0 1 = cc in omega arith
-  never_end (Err f) h = let z : ◌≡◌ {A = ℕ} 0 1 = cc in omega arith
-
   -- one turn, by what came of the first line of what remains
-
-  pub turn_end : (n : ℕ) (rest : List ℕ) → told (next_entered parsed places es (take 16 rest)) ≡ Ok false → (read_from parsed places n es (lines_of rest) ≡ record { answer = Ok n; entries = es }) × (added es (next_entered parsed places es (take 16 rest)) ≡ es)
-  turn_end n [] h = (refl, refl)
-  turn_end n (b ∷ rest) h = absurd (never_end (line_entered parsed places es (take 16 (b ∷ rest))) h)
 
   pub turn_fault : (n : ℕ) (rest : List ℕ) (f : Layer) → told (next_entered parsed places es (take 16 rest)) ≡ Err f → (read_from parsed places n es (lines_of rest) ≡ record { answer = Err (record { line = n + 1; layer = f }); entries = es }) × (added es (next_entered parsed places es (take 16 rest)) ≡ es)
   turn_fault n [] f h = absurd (let z : ◌≡◌ {A = ℕ} 0 1 = cc in omega arith)
@@ -76,17 +85,15 @@ module _ {K : Type 0} (parsed : List ℕ → Option K) (places : ℕ) (es : List
       )
 
   pub record Turned (n : ℕ) (rest : List ℕ) : Type 0 where
-    pub some : 0 < length rest
     pub same : read_from parsed places (n + 1) (added es (next_entered parsed places es (take 16 rest))) (lines_of (drop 16 rest)) ≡ read_from parsed places n es (lines_of rest)
     pub longer : length (added es (next_entered parsed places es (take 16 rest))) ≡ length es + 1
 
-  pub turn_more : (n : ℕ) (rest : List ℕ) → told (next_entered parsed places es (take 16 rest)) ≡ Ok true → Turned n rest
-  turn_more n [] h = absurd (let z : false ≡ true = cc in false≢true z)
-  turn_more n (b ∷ rest) h =
+  pub turn_more : (n : ℕ) (rest : List ℕ) → 0 < length rest → told (next_entered parsed places es (take 16 rest)) ≡ Ok tt → Turned n rest
+  turn_more n [] more h = absurd (omega arith)
+  turn_more n (b ∷ rest) more h =
       let found = entry_some (line_entered parsed places es (take 16 (b ∷ rest))) h in
       let new = ap (λ r. added es (some parsed r)) found.1 in
       record {
-        some = omega arith;
         same =
             ap (λ xs. read_from parsed places (n + 1) xs (lines_of (drop 16 (b ∷ rest)))) new
             ∙ sym

@@ -1,5 +1,5 @@
 -- What is read in from a sheet. Assumes nothing.
-use Rattle.std.specs.Prelude.{ℕ, zero, suc, ◌+◌, ◌/◌, Bool, true, false, List, [], ◌∷◌, ◌++◌, length, take, drop, Some, None, Ok, Err, Option, Result}
+use Rattle.std.specs.Prelude.{ℕ, zero, suc, ◌+◌, ◌/◌, List, [], ◌∷◌, ◌++◌, length, take, drop, Some, None, Ok, Err, Option, Result}
 use Rattle.refusals.specs.declared.LineRefusal.{LineRefusal}
 use Rattle.refusals.specs.declared.Refusal.{Refusal}
 use Rattle.history.specs.declared.Entry.{Entry}
@@ -26,9 +26,9 @@ module _ {K : Type 0} where
   of_line places es (Ok e) = of_book e (entered places es e.cue)
   of_line places es (Err f) = Err (Line f)
 
-  abbrev pub told : Result (Option (Entry K)) Layer → Result Bool Layer
-  told (Ok None) = Ok false
-  told (Ok (Some e)) = Ok true
+  -- the answer to a line alone
+  abbrev pub told : Result (Option (Entry K)) Layer → Result (Unit {0}) Layer
+  told (Ok added) = Ok tt
   told (Err f) = Err f
 
   abbrev pub added : List (Entry K) → Result (Option (Entry K)) Layer → List (Entry K)

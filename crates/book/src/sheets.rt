@@ -16,19 +16,16 @@ pub struct ReadFault {
 }
 
 impl<'a, K: Item> Book<'a, K> {
-    // Enters the entry that a line says; `false` where there is no byte.
-    fn enter_line(&mut self, line: &[u8]) -> Result<bool, Layer>
+    // Enters the entry that a line says, where it has a byte.
+    fn enter_line(&mut self, line: &[u8]) -> Result<(), Layer>
         ensures answer { result ≡ told (next_entered K.Item.parsed (room self.old) (accepted self.old) line.now) }
         ensures grows { accepted self.new ≡ added (accepted self.old) (next_entered K.Item.parsed (room self.old) (accepted self.old) line.now) }
         ensures lays { Lays self.old self.new }
     {
-        match read_line(line)? {
-            None => Ok(false),
-            Some(entry) => {
-                self.enter(entry)?;
-                Ok(true)
-            }
+        if let Some(entry) = read_line(line)? {
+            self.enter(entry)?;
         }
+        Ok(())
     }
 
     // Enters the lines of a sheet in turn until one is refused, and answers how many there were.
@@ -37,25 +34,10 @@ impl<'a, K: Item> Book<'a, K> {
         ensures grows { accepted self.new ≡ (read_in K.Item.parsed (room self.old) (accepted self.old) sheet.now).entries }
         ensures lays { Lays self.old self.new }
     {
-        let mut rest = sheet;
-        let mut lines = 0usize;
-        loop {
-            let (line, after) = rest.split_at(LINE.min(rest.len()));
-            match self.enter_line(line) {
-                Ok(entered) => {
-                    if !entered {
-                        return Ok(lines);
-                    }
-                }
-                Err(layer) => {
-                    return Err(ReadFault {
-                        line: lines + 1,
-                        layer,
-                    });
-                }
-            }
-            lines += 1;
-            rest = after;
+        for (i, line) in sheet.chunks(LINE).enumerate() {
+            self.enter_line(line)
+                .map_err(|layer| ReadFault { line: i + 1, layer })?;
         }
+        Ok(sheet.len().div_ceil(LINE))
     }
 }

@@ -1,73 +1,61 @@
-use Rattle.std.proofs.Common.{◌≡◌, ℕ, ◌+◌, min, length, take, drop, Ok, sym, refl, ap, ◌∙◌, arith}
+use Rattle.std.proofs.Common.{rules, ◌≡◌, ℕ, ◌+◌, min, length, take, Err, sym, ap, ◌∙◌, arith}
 use Rattle.std.proofs.lemmas.List.{length-drop}
-use Rattle.lists.proofs.Takes.{take_min, drop_min}
+use Rattle.std.proofs.lemmas.Result.{err_from_is_err_and}
+use Rattle.std.specs.Iterator.Adapters.{enumerate_source, enumerate_count}
+use Rattle.std.specs.Slice.Iter.{chunks_rest}
 use Rattle.book.specs.Entering.{room, accepted}
 use Rattle.book.specs.Reading.{Taken, lines_of, next_entered, told, added, read_from}
-use Rattle.book.proofs.Entering.{lays_none, lays_two}
-use Rattle.book.proofs.Reading.{turn_end, turn_fault, turn_more}
+use Rattle.book.proofs.Entering.{lays_two}
+use Rattle.book.proofs.Reading.{err_mapped, Cut, cut, turn_fault, turn_more}
 use Rattle.book.proofs.Book.read_in.Given as given
 use Rattle.book.proofs.Book.read_in.Goals as goal
 use Rattle.book.proofs.Book.read_in.Goals.{After-enter_line}
 
-pub loop-entered-init : goal.loop-entered-init
-loop-entered-init g c = (refl, lays_none c.args.self.now, omega arith, omega arith)
+-- the turn's line is the first of what remains
+cut_here : (g : given.Over) (c : After-enter_line g) → Cut c.in-Some.line.now (chunks_rest (enumerate_source c.next.new.self)) (chunks_rest (enumerate_source c.loop-i.i-iterator))
+cut_here g c =
+    let chunk = c.in-Some.ensures.steps.0.1 in
+    cut c.in-Some.line.now (chunks_rest (enumerate_source c.next.new.self)) (chunks_rest (enumerate_source c.loop-i.i-iterator)) chunk.0
+    (chunk.1 ∙ ap (λ (n : ℕ). min n (length (chunks_rest (enumerate_source c.loop-i.i-iterator)))) c.loop-i.invariant.4)
 
--- the turn's line is the first of what remains, and the book has as many places as at the start
-line_is : (g : given.Over) (c : After-enter_line g) → next_entered g.K.Item.parsed (room c.loop-entered.self) (accepted c.loop-entered.self) c.split_at.result.0.now ≡ next_entered g.K.Item.parsed (room c.args.self.now) (accepted c.loop-entered.self) (take 16 c.loop-entered.rest.now)
+-- and the book has as many places as at the start
+line_is : (g : given.Over) (c : After-enter_line g) → next_entered g.K.Item.parsed (room c.loop-i.self) (accepted c.loop-i.self) c.in-Some.line.now ≡ next_entered g.K.Item.parsed (room c.args.self.now) (accepted c.loop-i.self) (take 16 (chunks_rest (enumerate_source c.loop-i.i-iterator)))
 line_is g c =
-    let rest = c.loop-entered.rest.now in
-    let line = c.split_at.ensures.front ∙ ap (λ (n : ℕ). take n rest) c.min.ensures ∙ take_min 16 rest in
-    let places = ap (λ (n : ℕ). min n 4096) c.loop-entered.invariant.1.size in
-    (λ i. next_entered g.K.Item.parsed (places i) (accepted c.loop-entered.self) (line i))
+    let places = ap (λ (n : ℕ). min n 4096) c.loop-i.invariant.1.size in
+    (λ i. next_entered g.K.Item.parsed (places i) (accepted c.loop-i.self) ((cut_here g c).first i))
 
-grows_by : (g : given.Over) (c : After-enter_line g) → accepted c.enter_line.new.self ≡ added (accepted c.loop-entered.self) (next_entered g.K.Item.parsed (room c.args.self.now) (accepted c.loop-entered.self) (take 16 c.loop-entered.rest.now))
-grows_by g c = c.enter_line.ensures.grows ∙ ap (added (accepted c.loop-entered.self)) (line_is g c)
+grows_by : (g : given.Over) (c : After-enter_line g) → accepted c.enter_line.new.self ≡ added (accepted c.loop-i.self) (next_entered g.K.Item.parsed (room c.args.self.now) (accepted c.loop-i.self) (take 16 (chunks_rest (enumerate_source c.loop-i.i-iterator))))
+grows_by g c = c.enter_line.ensures.grows ∙ ap (added (accepted c.loop-i.self)) (line_is g c)
 
-pub returns-then-not-entered : goal.returns-then-not-entered
-returns-then-not-entered g c =
-    let at = (goal.at.returns-then-not-entered g c).After-enter_line in
-    let t = turn_end g.K.Item.parsed (room c.args.self.now) (accepted c.loop-entered.self) c.loop-entered.lines c.loop-entered.rest.now
-    (sym (c.in-Ok.ensures.answer ∙ ap told (line_is g at)) ∙ ap Ok c.if-not-entered.true) in
-    let all = sym t.0 ∙ c.loop-entered.invariant.0 in
-    let none = grows_by g at ∙ t.1 in
-    record {
-      answer = ap (λ (x : Taken _). x.answer) all;
-      grows = none ∙ ap (λ (x : Taken _). x.entries) all;
-      lays = lays_two c.args.self.now c.loop-entered.self c.enter_line.new.self c.loop-entered.invariant.1 c.enter_line.ensures.lays c.loop-entered.invariant.2 (omega (arith, ap length none));
-    }
-
-pub returns-in-Err : goal.returns-in-Err
-returns-in-Err g c =
-    let at = (goal.at.returns-in-Err g c).After-enter_line in
-    let t = turn_fault g.K.Item.parsed (room c.args.self.now) (accepted c.loop-entered.self) c.loop-entered.lines c.loop-entered.rest.now c.in-Err.layer
-    (sym (c.in-Err.ensures.answer ∙ ap told (line_is g at))) in
-    let all = sym t.0 ∙ c.loop-entered.invariant.0 in
-    let none = grows_by g at ∙ t.1 in
-    record {
-      answer = ap (λ (x : Taken _). x.answer) all;
-      grows = none ∙ ap (λ (x : Taken _). x.entries) all;
-      lays = lays_two c.args.self.now c.loop-entered.self c.enter_line.new.self c.loop-entered.invariant.1 c.enter_line.ensures.lays c.loop-entered.invariant.2 (omega (arith, ap length none));
-    }
-
-pub loop-entered-preserved : goal.loop-entered-preserved
-loop-entered-preserved g c =
-    let at = (goal.at.loop-entered-preserved g c).After-enter_line in
-    let rest = c.loop-entered.rest.now in
-    let t = turn_more g.K.Item.parsed (room c.args.self.now) (accepted c.loop-entered.self) c.loop-entered.lines rest
-    (sym (c.in-Ok.ensures.answer ∙ ap told (line_is g at)) ∙ ap Ok c.if-not-entered.false) in
+pub loop-i-preserved : goal.loop-i-preserved
+loop-i-preserved g c =
+    let at = (goal.at.loop-i-preserved g c).After-enter_line in
+    let n = enumerate_count c.loop-i.i-iterator in
+    let rest = chunks_rest (enumerate_source c.loop-i.i-iterator) in
+    let steps = c.in-Some.ensures.steps in
+    let t = turn_more g.K.Item.parsed (room c.args.self.now) (accepted c.loop-i.self) n rest steps.0.1.2
+    (sym (c.enter_line.ensures.answer ∙ ap told (line_is g at)) ∙ search rules) in
     let more = ap length (grows_by g at) ∙ t.longer in
-    let after = c.split_at.ensures.back ∙ ap (λ (n : ℕ). drop n rest) c.min.ensures ∙ drop_min 16 rest in (
-      (λ i. read_from g.K.Item.parsed (room c.args.self.now) (c.loop-entered.lines + 1) (grows_by g at i) (lines_of (after i))) ∙ t.same ∙ c.loop-entered.invariant.0,
-      lays_two c.args.self.now c.loop-entered.self c.enter_line.new.self c.loop-entered.invariant.1 c.enter_line.ensures.lays c.loop-entered.invariant.2 (omega (arith, more)),
-      omega (arith, more, c.loop-entered.invariant.2),
-      omega (arith, ap length after, length-drop 16 rest, t.some, c.loop-entered.invariant.3),
+    let after = (cut_here g at).others in (
+      (λ i. read_from g.K.Item.parsed (room c.args.self.now) (steps.2 i) (grows_by g at i) (lines_of (after i))) ∙ t.same ∙ c.loop-i.invariant.0,
+      lays_two c.args.self.now c.loop-i.self c.enter_line.new.self c.loop-i.invariant.1 c.enter_line.ensures.lays c.loop-i.invariant.2 (omega (arith, more)),
+      omega (arith, more, c.loop-i.invariant.2),
+      omega (arith, ap length after, length-drop 16 rest, steps.0.1.2, steps.2, c.loop-i.invariant.3),
+      steps.0.0 ∙ c.loop-i.invariant.4,
     )
 
-pub loop-entered-smaller : goal.loop-entered-smaller
-loop-entered-smaller g c =
-    let at = (goal.at.loop-entered-smaller g c).After-enter_line in
-    let rest = c.loop-entered.rest.now in
-    let t = turn_more g.K.Item.parsed (room c.args.self.now) (accepted c.loop-entered.self) c.loop-entered.lines rest
-    (sym (c.in-Ok.ensures.answer ∙ ap told (line_is g at)) ∙ ap Ok c.if-not-entered.false) in
-    let after = c.split_at.ensures.back ∙ ap (λ (n : ℕ). drop n rest) c.min.ensures ∙ drop_min 16 rest in
-    omega (arith, ap length after, length-drop 16 rest, t.some)
+pub returns-in_err-map_err : goal.returns-in_err-map_err
+returns-in_err-map_err g c =
+    let at = (goal.at.returns-in_err-map_err g c).After-enter_line in
+    let n = enumerate_count c.loop-i.i-iterator in
+    let p = err_from_is_err_and c.from_residual.result c.from_residual.ensures.1 in
+    let m = err_mapped c.enter_line.result c.map_err.result (λ layer. record { line = c.in-Some.i + 1; layer = layer }) c.map_err.ensures.cases (λ layer fault q. search rules) c.in_err-map_err.field-0.0 c.in_err-map_err.was in
+    let t = turn_fault g.K.Item.parsed (room c.args.self.now) (accepted c.loop-i.self) n (chunks_rest (enumerate_source c.loop-i.i-iterator)) m.0
+    (sym (c.enter_line.ensures.answer ∙ ap told (line_is g at)) ∙ m.1) in
+    let all = sym t.0 ∙ c.loop-i.invariant.0 in
+    let none = grows_by g at ∙ t.1 in
+    record {
+      answer = p.1 ∙ ap Err (p.2 ∙ m.2) ∙ ap Err (λ i. record { line = c.in-Some.ensures.steps.1 i + 1; layer = m.0 }) ∙ ap (λ (x : Taken _). x.answer) all;
+      grows = none ∙ ap (λ (x : Taken _). x.entries) all;
+      lays = lays_two c.args.self.now c.loop-i.self c.enter_line.new.self c.loop-i.invariant.1 c.enter_line.ensures.lays c.loop-i.invariant.2 (omega (arith, ap length none));
+    }
