@@ -2,7 +2,6 @@
 #![tactic(auto)]
 
 ghost use Rattle.std.specs.Prelude.{◌≡◌, ◌<◌, ◌≤◌, [], length, slice_set};
-ghost use Rattle.book.specs.Entering.{room, accepted, entered, grown, Lays};
 
 mod questions;
 mod sheets;
@@ -21,33 +20,12 @@ const PLACES: usize = 4096;
 pub struct Book<'a, K> {
     memory: &'a mut [Entry<K>],
     len: usize,
-}
-
-// The place that an entry of the cue gets after these entries.
-fn place_for<K>(entries: &[Entry<K>], places: usize, cue: u32) -> Result<usize, Refusal>
-    requires { places ≤ 4096 }
-    ensures { result ≡ entered places entries.now cue }
-{
-    if !is_cue(cue) {
-        return Err(Refusal::NoSuchCue);
-    }
-    if has_ended(entries, cue) {
-        return Err(Refusal::CueEnded);
-    }
-    if entries.len() >= places {
-        return Err(Refusal::BookFull);
-    }
-    Ok(entries.len() + 1)
-}
-
-fn put<K: Copy>(memory: &mut [Entry<K>], at: usize, entry: Entry<K>)
-    requires { at < length memory.old }
-    ensures { memory.new ≡ slice_set memory.old at entry }
-{
-    memory[at] = entry;
+    ghost within: { len ≤ length memory.now },
 }
 
 impl<'a, K: Copy> Book<'a, K> {
+    ghost use Rattle.book.specs.Entering.{room, accepted, entered, grown, Lays};
+
     // A new book has no entry, and leaves its memory as it is.
     pub fn new(memory: &'a mut [Entry<K>]) -> Book<'a, K>
         ensures empty { accepted result ≡ [] }
@@ -62,7 +40,23 @@ impl<'a, K: Copy> Book<'a, K> {
     pub fn entries(&self) -> &[Entry<K>]
         ensures { result.now ≡ accepted self.now }
     {
-        &self.memory[0..self.len.min(self.memory.len())]
+        &self.memory[..self.len]
+    }
+
+    // The place that an entry of the cue gets, or the first refusal that is met.
+    fn place_for(&self, cue: u32) -> Result<usize, Refusal>
+        ensures { result ≡ entered (room self.now) (accepted self.now) cue }
+    {
+        if !is_cue(cue) {
+            return Err(Refusal::NoSuchCue);
+        }
+        if has_ended(self.entries(), cue) {
+            return Err(Refusal::CueEnded);
+        }
+        if self.len >= self.memory.len().min(PLACES) {
+            return Err(Refusal::BookFull);
+        }
+        Ok(self.len + 1)
     }
 
     // Accepts an entry and answers its place, or refuses it and writes nothing.
@@ -71,9 +65,8 @@ impl<'a, K: Copy> Book<'a, K> {
         ensures grows { accepted self.new ≡ grown result entry (accepted self.old) }
         ensures lays { Lays self.old self.new }
     {
-        let places = self.memory.len().min(PLACES);
-        let place = place_for(self.entries(), places, entry.cue)?;
-        put(self.memory, place - 1, entry);
+        let place = self.place_for(entry.cue)?;
+        self.memory[place - 1] = entry;
         self.len = place;
         Ok(place)
     }
