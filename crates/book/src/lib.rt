@@ -21,6 +21,7 @@ pub struct Book<'a, K> {
     memory: &'a mut [Entry<K>],
     len: usize,
     ghost within: { len ≤ length memory.now },
+    ghost few: { len ≤ 4096 },
 }
 
 impl<'a, K: Copy> Book<'a, K> {
