@@ -12,6 +12,6 @@ fn main(rt: HostRuntime) -> io::Result<()> {
     let mut sheet = Vec::new(rt.alloc());
     rt.stdin().take(SHEET).read_to_end(&mut sheet)?;
     let mut space = [0u8; 388];
-    let count = cue_report(sheet.as_slice(), &mut space);
+    let count = cue_report(sheet.as_slice(), &mut space).unwrap();
     rt.stdout().write_all(&space[0..count])
 }

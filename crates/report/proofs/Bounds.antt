@@ -1,6 +1,6 @@
 -- How far places and lines can go. Assumes nothing.
-use Rattle.std.proofs.Common.{◌≡◌, ℕ, suc, ◌+◌, ◌<◌, ◌≤◌, Bool, cond, not, leb, List, [], ◌∷◌, ◌++◌, length, Some, None, Ok, Err, Option, Result, refl, arith}
-use Rattle.std.proofs.lemmas.List.{length-append}
+use Rattle.std.proofs.Common.{◌≡◌, ℕ, suc, ◌+◌, ◌<◌, ◌≤◌, Bool, cond, not, leb, List, [], ◌∷◌, ◌++◌, length, Some, None, Ok, Err, Option, Result, subst, refl, arith}
+use Rattle.std.proofs.lemmas.List.{length_push}
 use Rattle.std.proofs.lemmas.Bool.{cond_both, leb-false}
 use Rattle.refusals.specs.declared.Refusal.{Refusal}
 use Rattle.refusals.specs.declared.Refusal.TheVariants.{NoSuchCue, CueEnded, BookFull}
@@ -14,7 +14,7 @@ use Rattle.recovery.specs.Breaks.{breaks_recoverable, breaks_cascadeless, breaks
 use Rattle.recovery.specs.Classes.{class_place, ranked, first_break, class_of}
 use Rattle.book.specs.declared.sheets.ReadFault.{ReadFault}
 use Rattle.book.specs.Entering.{entered}
-use Rattle.book.specs.Reading.{Taken, of_book, of_line, line_entered, step, read_from}
+use Rattle.book.specs.Reading.{of_book, of_line, line_entered, step, read_from}
 
 -- what is found lies within
 abbrev Below : ℕ → Option ℕ → Type 0
@@ -64,23 +64,19 @@ module _ {K : Type 0} (parsed : List ℕ → Option K) (places : ℕ) where
   of_line_lem es (Ok e) = of_book_lem es e (entered places es e.cue) (entered_free es e.cue)
   of_line_lem es (Err f) = tt
 
-  -- no more entries than places, and no fault past the line after the last that has one
+  -- no fault past the line after the last that has a place
   abbrev pub LineWithin : Result ℕ ReadFault → Type 0
   LineWithin (Ok n) = Unit {0}
   LineWithin (Err f) = f.line ≤ places + 1
 
-  pub record Within (t : Taken K) : Type 0 where
-    pub entries : length t.entries ≤ places
-    pub line : LineWithin t.answer
-
-  read_within : (n : ℕ) (es : List (Entry K)) (ls : List (List ℕ)) → n ≡ length es → length es ≤ places → Within (read_from parsed places n es ls)
-  read_within n es [] is h = record { entries = h; line = tt }
+  read_within : (n : ℕ) (es : List (Entry K)) (ls : List (List ℕ)) → n ≡ length es → n ≤ places → LineWithin (read_from parsed places n es ls).answer
+  read_within n es [] is h = tt
   read_within n es (l ∷ ls) is h =
-      go (λ e t. read_within (n + 1) (es ++ e ∷ []) ls (omega (arith, is, length-append es (e ∷ []))) (omega (arith, t, length-append es (e ∷ [])))) (line_entered parsed places es l) (of_line_lem es (line_in parsed l))
+      go (λ e t. read_within (n + 1) (es ++ e ∷ []) ls (omega (arith, is, length_push es e)) (omega (arith, is, t))) (line_entered parsed places es l) (of_line_lem es (line_in parsed l))
     where
-      go : ((e : Entry K) → length es < places → Within (read_from parsed places (n + 1) (es ++ e ∷ []) ls)) → (r : Result (Entry K) Layer) → Taking es r → Within (step parsed n es (λ e. read_from parsed places (n + 1) (es ++ e ∷ []) ls) r)
+      go : ((e : Entry K) → length es < places → LineWithin (read_from parsed places (n + 1) (es ++ e ∷ []) ls).answer) → (r : Result (Entry K) Layer) → Taking es r → LineWithin (step parsed n es (λ e. read_from parsed places (n + 1) (es ++ e ∷ []) ls) r).answer
       go more (Ok e) t = more e t
-      go more (Err f) t = record { entries = h; line = omega (arith, is, h) }
+      go more (Err f) t = omega (arith, h)
 
-  pub sheet_within : (ls : List (List ℕ)) → Within (read_from parsed places 0 [] ls)
-  sheet_within ls = read_within 0 [] ls refl (omega arith)
+  pub line_few : (ls : List (List ℕ)) (f : ReadFault) → (read_from parsed places 0 [] ls).answer ≡ Err f → f.line ≤ places + 1
+  line_few ls f e = subst LineWithin e (read_within 0 [] ls refl (omega arith))

@@ -1,4 +1,2 @@
-pub mod Laying
 pub mod Bounds
-pub mod Putting
-pub mod Reporting
+pub mod Writing

@@ -1,5 +1,5 @@
 -- The text of the report. Assumes nothing.
-use Rattle.std.specs.Prelude.{ℕ, Bool, cond, List, [], ◌∷◌, ◌++◌, length, Some, None, Ok, Err, Option, Result, nat_lt}
+use Rattle.std.specs.Prelude.{ℕ, Bool, cond, List, [], ◌∷◌, ◌++◌, length, Some, None, Ok, Err, Option, Result, nat_lt, codes}
 use Rattle.std.specs.List.{flat_map}
 use Rattle.refusals.specs.Numbers.{layer_number_of}
 use Rattle.columns.specs.Columns.{number_in}
@@ -12,25 +12,25 @@ use Rattle.book.specs.declared.sheets.ReadFault.{ReadFault}
 
 -- the words that lines begin with
 abbrev pub class : List ℕ
-class = 99 ∷ 108 ∷ 97 ∷ 115 ∷ 115 ∷ []
+class = codes "class"
 
 abbrev pub order : List ℕ
-order = 111 ∷ 114 ∷ 100 ∷ 101 ∷ 114 ∷ []
+order = codes "order"
 
 abbrev pub cycle : List ℕ
-cycle = 99 ∷ 121 ∷ 99 ∷ 108 ∷ 101 ∷ []
+cycle = codes "cycle"
 
 abbrev pub views : List ℕ
-views = 118 ∷ 105 ∷ 101 ∷ 119 ∷ 115 ∷ []
+views = codes "views"
 
 abbrev pub vnone : List ℕ
-vnone = 118 ∷ 110 ∷ 111 ∷ 110 ∷ 101 ∷ []
+vnone = codes "vnone"
 
 abbrev pub vmany : List ℕ
-vmany = 118 ∷ 109 ∷ 97 ∷ 110 ∷ 121 ∷ []
+vmany = codes "vmany"
 
 abbrev pub fault : List ℕ
-fault = 102 ∷ 97 ∷ 117 ∷ 108 ∷ 116 ∷ []
+fault = codes "fault"
 
 -- a word, numbers in five columns each, and a line feed
 abbrev pub line : List ℕ → List ℕ → List ℕ

@@ -9,5 +9,5 @@ ghost use Rattle.report.specs.Report.{Reported};
 pub extern "C" fn cue_report(sheet: &[u8], space: &mut [u8]) -> usize
     ensures { Reported sheet.now space.old space.new result }
 {
-    report::cue_report(sheet, space)
+    report::cue_report(sheet, space).unwrap_or_else(|refusal| refusal.number() as usize)
 }

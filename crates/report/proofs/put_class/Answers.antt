@@ -1,9 +1,0 @@
-use Rattle.std.proofs.Common.{ap, ◌∙◌, arith}
-use Rattle.recovery.specs.Classes.{class_place}
-use Rattle.book.specs.Entering.{accepted}
-use Rattle.report.proofs.Bounds.{place_within}
-use Rattle.report.proofs.put_class.Goals as goal
-
-pub overflow_cast-place : goal.overflow_cast-place
-overflow_cast-place g c =
-    omega (arith, c.place.ensures ∙ ap class_place c.class-class.ensures, place_within g.K.Item.alike (accepted c.args.book.now), c.requires.few)
