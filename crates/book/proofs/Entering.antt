@@ -22,6 +22,9 @@ free_by true false true places n p is e = absurd (let z : ◌≡◌ {A = ℕ} 0 
 free_by true false false places n p is e = record { next = cc; fits = leb-false places n (sym is) }
 
 module _ {K : Type 0} where
+  pub entered_free : (places : ℕ) (es : List (Entry K)) (n p : ℕ) → entered places es n ≡ Ok p → Free places (length es) p
+  entered_free places es n p is = free_by (is_cue n) (ended es n) (leb places (length es)) places (length es) p refl is
+
   -- a call that accepts nothing
   pub lays_none : (b : Book K) → Lays b b
   lays_none b = record { memory = sym (take_drop_length b.len b.memory.now); size = refl; count = omega arith; lender = refl }
@@ -30,7 +33,7 @@ module _ {K : Type 0} where
   pub lays_one : (b after : Book K) (p : ℕ) (e : Entry K) → entered (room b) (accepted b) e.cue ≡ Ok p → after.memory.now ≡ set b.memory.now (p - 1) e → after.len ≡ p → after.memory.ghost_name ≡ b.memory.ghost_name → Lays b after
   lays_one b after p e is put len lender =
       let memory = b.memory.now in
-      let free = free_by (is_cue e.cue) (ended (accepted b) e.cue) (leb (room b) (length (accepted b))) (room b) (length (accepted b)) p refl is in
+      let free = entered_free (room b) (accepted b) e.cue p is in
       let many = length-take-le b.len memory b.within in
       let spare : b.len < length memory = omega (arith, free.fits, many) in
       let next : p ≡ b.len + 1 = omega (arith, free.next, many) in

@@ -1,19 +1,18 @@
 -- How far places and lines can go. Assumes nothing.
-use Rattle.std.proofs.Common.{◌≡◌, ℕ, suc, ◌+◌, ◌<◌, ◌≤◌, Bool, cond, not, leb, List, [], ◌∷◌, ◌++◌, length, Some, None, Ok, Err, Option, Result, subst, refl, arith}
+use Rattle.std.proofs.Common.{◌≡◌, ℕ, suc, ◌+◌, ◌<◌, ◌≤◌, Bool, List, [], ◌∷◌, ◌++◌, length, Some, None, Ok, Err, Option, Result, subst, refl, arith}
 use Rattle.std.proofs.lemmas.List.{length_push}
-use Rattle.std.proofs.lemmas.Bool.{cond_both, leb-false}
+use Rattle.std.proofs.lemmas.Bool.{cond_both}
 use Rattle.refusals.specs.declared.Refusal.{Refusal}
-use Rattle.refusals.specs.declared.Refusal.TheVariants.{NoSuchCue, CueEnded, BookFull}
 use Rattle.refusals.specs.declared.Layer.{Layer}
 use Rattle.refusals.specs.declared.LineRefusal.{LineRefusal}
 use Rattle.lists.specs.Lists.{first_from}
 use Rattle.history.specs.declared.Entry.{Entry}
-use Rattle.history.specs.Entries.{is_cue, ended}
 use Rattle.lines.specs.Reading.{line_in}
 use Rattle.recovery.specs.Breaks.{breaks_recoverable, breaks_cascadeless, breaks_strict}
 use Rattle.recovery.specs.Classes.{class_place, ranked, first_break, class_of}
 use Rattle.book.specs.declared.sheets.ReadFault.{ReadFault}
 use Rattle.book.specs.Entering.{entered}
+use Rattle.book.proofs.Entering.{entered_free}
 use Rattle.book.specs.Reading.{of_book, of_line, line_entered, step, read_from}
 
 -- what is found lies within
@@ -42,26 +41,16 @@ module _ {K : Type 0} where
 
 -- a line that is entered has a place free
 module _ {K : Type 0} (parsed : List ℕ → Option K) (places : ℕ) where
-  abbrev Free : List (Entry K) → Result ℕ Refusal → Type 0
-  Free es (Ok p) = length es < places
-  Free es (Err f) = Unit {0}
-
-  entered_free : (es : List (Entry K)) (n : ℕ) → Free es (entered places es n)
-  entered_free es n =
-      cond_both (not (is_cue n)) (Err NoSuchCue) (cond (ended es n) (Err CueEnded) (cond (leb places (length es)) (Err BookFull) (Ok (length es + 1)))) (Free es) (λ b. tt)
-      (λ b. cond_both (ended es n) (Err CueEnded) (cond (leb places (length es)) (Err BookFull) (Ok (length es + 1))) (Free es) (λ c. tt)
-      (λ c. cond_both (leb places (length es)) (Err BookFull) (Ok (length es + 1)) (Free es) (λ d. tt) (λ d. leb-false places (length es) d)))
-
   abbrev Taking : List (Entry K) → Result (Entry K) Layer → Type 0
   Taking es (Ok e) = length es < places
   Taking es (Err f) = Unit {0}
 
-  of_book_lem : (es : List (Entry K)) (e : Entry K) (r : Result ℕ Refusal) → Free es r → Taking es (of_book e r)
-  of_book_lem es e (Ok p) h = h
-  of_book_lem es e (Err f) h = tt
+  of_book_lem : (es : List (Entry K)) (e : Entry K) (r : Result ℕ Refusal) → entered places es e.cue ≡ r → Taking es (of_book e r)
+  of_book_lem es e (Ok p) is = (entered_free places es e.cue p is).fits
+  of_book_lem es e (Err f) is = tt
 
   of_line_lem : (es : List (Entry K)) (r : Result (Entry K) LineRefusal) → Taking es (of_line places es r)
-  of_line_lem es (Ok e) = of_book_lem es e (entered places es e.cue) (entered_free es e.cue)
+  of_line_lem es (Ok e) = of_book_lem es e (entered places es e.cue) refl
   of_line_lem es (Err f) = tt
 
   -- no fault past the line after the last that has a place
