@@ -39,7 +39,7 @@ impl Page {
         match book.order(&mut cues, &mut strip) {
             Ok(Found::Order(count)) => self.line(b"order", &cues[..count]),
             Ok(Found::Cycle(count)) => self.line(b"cycle", &cues[..count]),
-            Err(_) => {}
+            Err(_) => unreachable!(),
         }
     }
 

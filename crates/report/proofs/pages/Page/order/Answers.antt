@@ -9,5 +9,5 @@ returns-in-Ok-Order g c = order_written g.K.Item.alike (accepted c.args.book.now
 pub returns-in-Ok-Cycle : goal.returns-in-Ok-Cycle
 returns-in-Ok-Cycle g c = cycle_written g.K.Item.alike (accepted c.args.book.now) _ _ _ _ _ refl c.in-Ok-Cycle.field-0 c.in-Ok-Cycle.ensures.lists c.in-Ok-Cycle.field-0-is c.line-in-Ok-Cycle.ensures
 
-pub returns-in-Err : goal.returns-in-Err
-returns-in-Err g c = absurd (order_taken (accepted c.args.book.now) c.in-Err.field-0 c.in-Err.ensures.refuses)
+pub unreachable-requires : goal.unreachable-requires
+unreachable-requires g c = order_taken (accepted c.args.book.now) c.in-Err.field-0 c.in-Err.ensures.refuses
