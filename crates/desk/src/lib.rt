@@ -5,18 +5,25 @@ mod sheet;
 mod waiting;
 
 use graphs::Found;
+use refusals::Refusal;
 pub use sheet::run;
 use std::io;
 pub use waiting::run_waits;
 
-// Prints an order or a cycle: the word, and each number right-justified in five columns.
-fn print_found(rt: &HostRuntime, found: Found, cells: &[u32]) -> io::Result<()> {
+// Prints the order or the cycle that a search left at the front of the list, each number right-justified in five columns, or the
+// number of its refusal.
+fn print_found(
+    rt: &HostRuntime,
+    found: Result<Found, Refusal>,
+    list: &[u32; 64],
+) -> io::Result<()> {
     let (word, count) = match found {
-        Found::Order(count) => ("order", count),
-        Found::Cycle(count) => ("cycle", count),
+        Ok(Found::Order(count)) => ("order", count),
+        Ok(Found::Cycle(count)) => ("cycle", count),
+        Err(refusal) => return println!(rt; "refused{:>5}", refusal.number()),
     };
     print!(rt; "{word}")?;
-    for cell in cells.iter().take(count) {
+    for cell in list.iter().take(count) {
         print!(rt; "{cell:>5}")?;
     }
     println!(rt; "")

@@ -8,28 +8,26 @@ fn row_of(line: &str) -> Option<Wait> {
     let mut words = line.split_whitespace();
     let winch = words.next()?.parse::<u32>().ok()?;
     let awaited = words.next()?.parse::<u32>().ok()?;
-    if words.next().is_some() {
-        return None;
+    match words.next() {
+        None => Some(Wait { winch, awaited }),
+        Some(_) => None,
     }
-    Some(Wait { winch, awaited })
 }
 
 // Whether the wait list refuses a row for its numbers, which it looks at before the list and the strip.
 fn is_out_of_range(row: Wait) -> bool {
-    match wait_order(&[row], &mut [], &mut []) {
-        Err(refusal) => refusal == Refusal::NoSuchWinch,
-        Ok(_) => false,
-    }
+    matches!(
+        wait_order(&[row], &mut [], &mut []),
+        Err(Refusal::NoSuchWinch)
+    )
 }
 
 // Reads rows of waits, and prints an order in which the winches can move, or a cycle of winches that wait for one another; or
 // the first line that is no such row.
 pub fn run_waits(rt: &HostRuntime) -> anyhow::Result<()> {
     let mut rows = Vec::new(rt.alloc());
-    let mut number = 0usize;
-    for line in rt.lines(rt.alloc()) {
+    for (number, line) in (1usize..).zip(rt.lines(rt.alloc())) {
         let line = line?;
-        number = number.saturating_add(1);
         let Some(row) = row_of(line.as_str()) else {
             println!(rt; "line {number}: not two numbers")?;
             return Ok(());
@@ -42,12 +40,7 @@ pub fn run_waits(rt: &HostRuntime) -> anyhow::Result<()> {
     }
     let mut winches = [0u32; 64];
     let mut strip = [0u8; 64];
-    match wait_order(rows.as_slice(), &mut winches, &mut strip) {
-        Ok(found) => print_found(rt, found, &winches)?,
-        Err(refusal) => {
-            let number = refusal.number();
-            println!(rt; "refused{number:>5}")?;
-        }
-    }
+    let found = wait_order(rows.as_slice(), &mut winches, &mut strip);
+    print_found(rt, found, &winches)?;
     Ok(())
 }
