@@ -6,102 +6,113 @@ use book::Book;
 use history::{Act, Entry};
 use items::Axis;
 use refusals::Refusal;
-use std::{env, io};
+use std::{env, fmt, io};
 
 const PLACES: usize = 4096;
 
 // How many entries come before the eight commits that end a full book.
 const BODY: usize = 4088;
 
-const NAMES: [&'static str; 6] = [
-    "writes of different axes",
-    "writes of one axis",
-    "reads, then writes of different axes",
-    "reads and writes of one axis",
-    "each axis written twice and read",
-    "two sources that keep each other from a reader",
+// The books, by what they hold.
+#[derive(Clone, Copy, PartialEq, Eq, Debug)]
+enum Kind {
+    WritesApart,
+    WritesTogether,
+    ReadsThenWrites,
+    ReadsAndWrites,
+    WrittenTwice,
+    TwoSources,
+}
+
+// The books by their numbers, from 0.
+const KINDS: [Kind; 6] = [
+    Kind::WritesApart,
+    Kind::WritesTogether,
+    Kind::ReadsThenWrites,
+    Kind::ReadsAndWrites,
+    Kind::WrittenTwice,
+    Kind::TwoSources,
 ];
 
-fn act(kind: usize, i: usize) -> Act<Axis> {
-    let axis = Axis {
-        number: (i % 65_536) as u16,
-    };
-    let one = Axis { number: 7 };
-    match kind {
-        0 => Act::Write(axis),
-        1 => Act::Write(one),
-        2 => {
-            if i < BODY / 2 {
-                Act::Read(axis)
-            } else {
-                Act::Write(axis)
-            }
-        }
-        3 => {
-            if i % 2 == 0 {
-                Act::Read(one)
-            } else {
-                Act::Write(one)
-            }
-        }
-        _ => {
-            let third = Axis {
-                number: (i / 3 % 65_536) as u16,
-            };
-            if i % 3 == 2 {
-                Act::Read(third)
-            } else {
-                Act::Write(third)
-            }
-        }
+impl fmt::Display for Kind {
+    fn fmt<W: fmt::Write>(&self, f: &mut fmt::Formatter<W>) -> fmt::Result {
+        f.write_str(match self {
+            Kind::WritesApart => "writes of different axes",
+            Kind::WritesTogether => "writes of one axis",
+            Kind::ReadsThenWrites => "reads, then writes of different axes",
+            Kind::ReadsAndWrites => "reads and writes of one axis",
+            Kind::WrittenTwice => "each axis written twice and read",
+            Kind::TwoSources => "two sources that keep each other from a reader",
+        })
     }
 }
 
-// The cue whose turn it is.
-fn turn(kind: usize, i: usize) -> u32 {
-    if kind == 3 {
-        (i / 2 % 8) as u32 + 1
-    } else {
-        (i % 8) as u32 + 1
-    }
-}
+const FIRST: Axis = Axis { number: 1 };
+
+const SECOND: Axis = Axis { number: 2 };
 
 // Cues 1 and 5 write both of two axes, one after the other and the other way round, cue 7 reads each, and cue 8 writes both last:
 // of 1 and 5 neither may stand between the other and 7.
-const BOUND: [(u32, u16, bool); 8] = [
-    (1, 1, true),
-    (5, 1, true),
-    (7, 1, false),
-    (5, 2, true),
-    (1, 2, true),
-    (7, 2, false),
-    (8, 1, true),
-    (8, 2, true),
+const SOURCES: [(u32, Act<Axis>); 8] = [
+    (1, Act::Write(FIRST)),
+    (5, Act::Write(FIRST)),
+    (7, Act::Read(FIRST)),
+    (5, Act::Write(SECOND)),
+    (1, Act::Write(SECOND)),
+    (7, Act::Read(SECOND)),
+    (8, Act::Write(FIRST)),
+    (8, Act::Write(SECOND)),
 ];
+
+// The axis of a number, of which as many differ as there are.
+fn axis(n: usize) -> Axis {
+    Axis {
+        number: (n % 65_536) as u16,
+    }
+}
+
+impl Kind {
+    // How many entries come before the commits.
+    fn body(self) -> usize {
+        match self {
+            Kind::TwoSources => SOURCES.len(),
+            _ => BODY,
+        }
+    }
+
+    // What entry `i` does.
+    fn act(self, i: usize) -> Act<Axis> {
+        match self {
+            Kind::WritesApart => Act::Write(axis(i)),
+            Kind::WritesTogether => Act::Write(axis(7)),
+            Kind::ReadsThenWrites if i < BODY / 2 => Act::Read(axis(i)),
+            Kind::ReadsThenWrites => Act::Write(axis(i)),
+            Kind::ReadsAndWrites if i % 2 == 0 => Act::Read(axis(7)),
+            Kind::ReadsAndWrites => Act::Write(axis(7)),
+            Kind::WrittenTwice if i % 3 == 2 => Act::Read(axis(i / 3)),
+            Kind::WrittenTwice => Act::Write(axis(i / 3)),
+            Kind::TwoSources => SOURCES[i % 8].1,
+        }
+    }
+
+    // The cue that makes entry `i`.
+    fn cue(self, i: usize) -> u32 {
+        match self {
+            Kind::ReadsAndWrites => (i / 2 % 8) as u32 + 1,
+            Kind::TwoSources => SOURCES[i % 8].0,
+            _ => (i % 8) as u32 + 1,
+        }
+    }
+}
 
 fn enter(book: &mut Book<'_, Axis>, cue: u32, act: Act<Axis>) {
     let _ = book.enter(Entry { cue, act });
 }
 
-// A full book of a kind, or the short one that binds, with eight committed cues.
-fn fill(book: &mut Book<'_, Axis>, kind: usize) {
-    if kind == 5 {
-        for (cue, number, writes) in &BOUND {
-            let axis = Axis { number: *number };
-            enter(
-                book,
-                *cue,
-                if *writes {
-                    Act::Write(axis)
-                } else {
-                    Act::Read(axis)
-                },
-            );
-        }
-    } else {
-        for i in 0..BODY {
-            enter(book, turn(kind, i), act(kind, i));
-        }
+// A book of a kind, with eight committed cues.
+fn fill(book: &mut Book<'_, Axis>, kind: Kind) {
+    for i in 0..kind.body() {
+        enter(book, kind.cue(i), kind.act(i));
     }
     for cue in 1..9u32 {
         enter(book, cue, Act::Commit);
@@ -116,10 +127,7 @@ fn print_answer(
     match answer {
         Ok(Some(count)) => print!(rt; "views of {count},")?,
         Ok(None) => print!(rt; "none,")?,
-        Err(refusal) => {
-            let number = refusal.number();
-            print!(rt; "refused {number},")?;
-        }
+        Err(refusal) => print!(rt; "refused {},", refusal.number())?,
     }
     for cell in list {
         print!(rt; " {cell}")?;
@@ -129,13 +137,9 @@ fn print_answer(
 
 // Asks views of one book with lists of several lengths, whose cells are 777 before.
 fn print_lists(rt: &HostRuntime, committed: u32) -> anyhow::Result<()> {
-    let free: Entry<Axis> = Entry {
-        cue: 0,
-        act: Act::Abort,
-    };
-    let mut memory = [free; 64];
+    let mut memory = [Entry::FREE; 64];
     let mut book = Book::new(&mut memory);
-    for cue in 1..committed.saturating_add(1) {
+    for cue in 1..=committed {
         enter(&mut book, cue, Act::Commit);
     }
     for cells in [0usize, 7, 8, 10] {
@@ -152,8 +156,11 @@ fn number(word: Option<String>) -> Option<usize> {
     word?.as_str().parse::<usize>().ok()
 }
 
-// Asks views of the book so often, with nine cells.
-fn ask(rt: &HostRuntime, book: &Book<'_, Axis>, count: usize) -> io::Result<()> {
+// Asks views of the book of a kind so often, with nine cells.
+fn run(rt: &HostRuntime, kind: Kind, count: usize) -> io::Result<()> {
+    let mut memory = [Entry::FREE; PLACES];
+    let mut book = Book::new(&mut memory);
+    fill(&mut book, kind);
     for _ in 0..count {
         let mut list = [777u32; 9];
         let answer = book.views(&mut list);
@@ -162,31 +169,22 @@ fn ask(rt: &HostRuntime, book: &Book<'_, Axis>, count: usize) -> io::Result<()> 
     Ok(())
 }
 
-// The book of a kind, asked so often.
-fn run(rt: &HostRuntime, kind: usize, count: usize) -> io::Result<()> {
-    let free: Entry<Axis> = Entry {
-        cue: 0,
-        act: Act::Abort,
-    };
-    let mut memory = [free; PLACES];
-    let mut book = Book::new(&mut memory);
-    fill(&mut book, kind);
-    ask(rt, &book, count)
-}
-
 fn main(rt: HostRuntime) -> anyhow::Result<()> {
     let mut words = env::args(&rt)?;
     words.next();
     if let Some(kind) = number(words.next()) {
+        // Any other number is taken for the fifth book.
+        let kind = KINDS.get(kind).copied().unwrap_or(Kind::WrittenTwice);
         let count = number(words.next()).unwrap_or(1);
         run(&rt, kind, count)?;
         return Ok(());
     }
-    for (kind, name) in NAMES.iter().enumerate() {
-        print!(rt; "{name}: ")?;
+    for kind in KINDS {
+        print!(rt; "{kind}: ")?;
         run(&rt, kind, 1)?;
     }
-    print_lists(&rt, 0)?;
-    print_lists(&rt, 8)?;
-    print_lists(&rt, 9)
+    for committed in [0u32, 8, 9] {
+        print_lists(&rt, committed)?;
+    }
+    Ok(())
 }
