@@ -163,47 +163,41 @@ const BOOKS: [Case<'static>; 3] = [
 ];
 
 fn show<K: Item>(rt: &HostRuntime, case: Case<'_>, memory: &mut [Entry<K>]) -> io::Result<()> {
-    let name = case.name;
     let mut book = Book::new(memory);
+    print!(rt; "{}: ", case.name)?;
     match book.read_in(case.sheet) {
-        Ok(lines) => println!(rt; "{name}: {lines} entered"),
+        Ok(lines) => println!(rt; "{lines} entered"),
         Err(fault) => {
-            let number = fault.layer.number();
-            let line = fault.line;
-            let entered = book.entries().len();
-            match fault.layer {
-                Layer::Line(_) => println!(rt;
-                    "{name}: line {line} gets {number} as a line, {entered} entered"
-                ),
-                Layer::Book(_) => println!(rt;
-                    "{name}: line {line} gets {number} from the book, {entered} entered"
-                ),
-            }
+            let by = match fault.layer {
+                Layer::Line(_) => "as a line",
+                Layer::Book(_) => "from the book",
+            };
+            println!(rt;
+                "line {} gets {} {by}, {} entered",
+                fault.line,
+                fault.layer.number(),
+                book.entries().len()
+            )
         }
     }
 }
 
 // How many entries a book over so many places takes, and the refusal of the next.
 fn fill(rt: &HostRuntime, places: usize) -> anyhow::Result<()> {
-    let free: Entry<Axis> = Entry {
-        cue: 0,
-        act: Act::Abort,
-    };
-    let mut memory = vec![in rt.alloc(); free; places]?;
+    let mut memory = vec![in rt.alloc(); Entry::FREE; places]?;
     let mut book = Book::new(memory.as_mut_slice());
-    let mut taken = 0usize;
     for i in 0..6000u32 {
         let entry = Entry {
             cue: i % 64 + 1,
             act: Act::Read(Axis { number: 7 }),
         };
-        match book.enter(entry) {
-            Ok(place) => taken = place,
-            Err(refusal) => {
-                let number = refusal.number();
-                println!(rt; "{places} places: {taken} entered, then {number}")?;
-                break;
-            }
+        if let Err(refusal) = book.enter(entry) {
+            println!(rt;
+                "{places} places: {} entered, then {}",
+                book.entries().len(),
+                refusal.number()
+            )?;
+            break;
         }
     }
     Ok(())
@@ -231,38 +225,23 @@ const COPIES: [Case<'static>; 4] = [
 
 // Copies a line into a space of `size` bytes, and prints what came of it and what the space then holds.
 fn copy(rt: &HostRuntime, case: Case<'_>, size: usize) -> anyhow::Result<()> {
-    let name = case.name;
     let mut space = vec![in rt.alloc(); b'.'; size]?;
+    print!(rt; "{} into {size} bytes: ", case.name)?;
     match copy_line::<Mark>(case.sheet, space.as_mut_slice()) {
-        Ok(true) => println!(rt; "{name} into {size} bytes: copied")?,
-        Ok(false) => println!(rt; "{name} into {size} bytes: the end")?,
-        Err(layer) => {
-            let number = layer.number();
-            println!(rt; "{name} into {size} bytes: not copied, {number}")?;
-        }
+        Ok(true) => println!(rt; "copied")?,
+        Ok(false) => println!(rt; "the end")?,
+        Err(layer) => println!(rt; "not copied, {}", layer.number())?,
     }
-    let held = space.as_slice();
-    println!(rt; "{held:?}")?;
+    println!(rt; "{space:?}")?;
     Ok(())
 }
 
 fn main(rt: HostRuntime) -> anyhow::Result<()> {
-    let free: Entry<Axis> = Entry {
-        cue: 0,
-        act: Act::Abort,
-    };
-    let none: Entry<Mark> = Entry {
-        cue: 0,
-        act: Act::Abort,
-    };
-    for case in &LINES {
-        show(&rt, *case, &mut [free; 4])?;
-    }
-    for case in &BOOKS {
-        show(&rt, *case, &mut [free; 4])?;
+    for case in LINES.iter().chain(&BOOKS) {
+        show(&rt, *case, &mut [Entry::<Axis>::FREE; 4])?;
     }
     for case in &MARKS {
-        show(&rt, *case, &mut [none; 4])?;
+        show(&rt, *case, &mut [Entry::<Mark>::FREE; 4])?;
     }
     for places in [0usize, 1, 4096, 5000] {
         fill(&rt, places)?;

@@ -5,14 +5,14 @@ use graphs::{Found, Wait, wait_order};
 use refusals::Refusal;
 use std::io;
 
+// The byte that a strip is lent with.
+const LENT: u8 = 9;
+
 fn print_found(rt: &HostRuntime, found: Result<Found, Refusal>) -> io::Result<()> {
     match found {
         Ok(Found::Order(count)) => println!(rt; "order of {count}"),
         Ok(Found::Cycle(count)) => println!(rt; "cycle of {count}"),
-        Err(refusal) => {
-            let number = refusal.number();
-            println!(rt; "refused, {number}")
-        }
+        Err(refusal) => println!(rt; "refused, {}", refusal.number()),
     }
 }
 
@@ -25,13 +25,7 @@ fn print_cells(rt: &HostRuntime, list: &[u32]) -> io::Result<()> {
 
 // How many bytes are as they were lent.
 fn kept(strip: &[u8]) -> usize {
-    let mut count = 0usize;
-    for byte in strip {
-        if *byte == 9 {
-            count = count.saturating_add(1);
-        }
-    }
-    count
+    strip.iter().filter(|byte| **byte == LENT).count()
 }
 
 // Searches with a list of so many cells and a strip of so many bytes, and prints the answer, the first cells and what the strip
@@ -44,13 +38,12 @@ fn show(
     bytes: usize,
 ) -> anyhow::Result<()> {
     let mut list = vec![in rt.alloc(); 777u32; cells]?;
-    let mut strip = vec![in rt.alloc(); 9u8; bytes]?;
+    let mut strip = vec![in rt.alloc(); LENT; bytes]?;
     let found = wait_order(rows, list.as_mut_slice(), strip.as_mut_slice());
     print!(rt; "{name}, {cells} cells, {bytes} bytes: ")?;
     print_found(rt, found)?;
     print_cells(rt, list.as_slice())?;
-    let same = kept(strip.as_slice());
-    println!(rt; "; {same} bytes as they were")?;
+    println!(rt; "; {} bytes as they were", kept(strip.as_slice()))?;
     Ok(())
 }
 
@@ -76,14 +69,7 @@ fn show_chains(rt: &HostRuntime) -> anyhow::Result<()> {
 }
 
 // One row, once or twice.
-fn show_row(
-    rt: &HostRuntime,
-    name: &str,
-    winch: u32,
-    awaited: u32,
-    cells: usize,
-) -> anyhow::Result<()> {
-    let row = Wait { winch, awaited };
+fn show_row(rt: &HostRuntime, name: &str, row: Wait, cells: usize) -> anyhow::Result<()> {
     show(rt, name, &[row], cells, 64)?;
     show(rt, name, &[row, row], cells, 64)
 }
@@ -92,8 +78,24 @@ fn main(rt: HostRuntime) -> anyhow::Result<()> {
     show_chains(&rt)?;
     show(&rt, "no number", &[], 0, 64)?;
     show(&rt, "no number", &[], 3, 64)?;
-    show_row(&rt, "a winch that waits for itself", 7, 7, 1)?;
-    show_row(&rt, "a winch that waits for another", 2, 9, 2)?;
-    show_row(&rt, "winch 0", 0, 1, 0)?;
-    show_row(&rt, "winch 65", 1, 65, 64)
+    let row = Wait {
+        winch: 7,
+        awaited: 7,
+    };
+    show_row(&rt, "a winch that waits for itself", row, 1)?;
+    let row = Wait {
+        winch: 2,
+        awaited: 9,
+    };
+    show_row(&rt, "a winch that waits for another", row, 2)?;
+    let row = Wait {
+        winch: 0,
+        awaited: 1,
+    };
+    show_row(&rt, "winch 0", row, 0)?;
+    let row = Wait {
+        winch: 1,
+        awaited: 65,
+    };
+    show_row(&rt, "winch 65", row, 64)
 }

@@ -2,57 +2,43 @@
 #![tactic(auto)]
 
 use book::{Book, Receipt, Step, Ticket};
-use history::{Act, Ending, Entry};
+use history::{Ending, Entry};
 use items::Axis;
 use refusals::Refusal;
 use std::io;
 
 const LIGHT: Axis = Axis { number: 5 };
 
-const FREE: Entry<Axis> = Entry {
-    cue: 0,
-    act: Act::Abort,
-};
-
 fn print_begun(rt: &HostRuntime, answer: Result<Ticket, Refusal>) -> io::Result<()> {
     match answer {
-        Ok(ticket) => {
-            let cue = ticket.cue();
-            println!(rt; "a ticket for cue {cue}")
-        }
-        Err(refusal) => {
-            let number = refusal.number();
-            println!(rt; "no ticket, {number}")
-        }
+        Ok(ticket) => println!(rt; "a ticket for cue {}", ticket.cue()),
+        Err(refusal) => println!(rt; "no ticket, {}", refusal.number()),
     }
 }
 
 fn print_place(rt: &HostRuntime, answer: Result<usize, Refusal>) -> io::Result<()> {
     match answer {
         Ok(place) => println!(rt; "recorded at {place}"),
-        Err(refusal) => {
-            let number = refusal.number();
-            println!(rt; "not recorded, {number}")
-        }
+        Err(refusal) => println!(rt; "not recorded, {}", refusal.number()),
     }
 }
 
 fn print_receipt(rt: &HostRuntime, receipt: &Receipt) -> io::Result<()> {
-    let place = receipt.place;
-    match receipt.ending {
-        Ending::Commit => println!(rt; "committed at {place}"),
-        Ending::Abort => println!(rt; "aborted at {place}"),
-    }
+    let ended = match receipt.ending {
+        Ending::Commit => "committed",
+        Ending::Abort => "aborted",
+    };
+    println!(rt; "{ended} at {}", receipt.place)
 }
 
 fn print_ended(rt: &HostRuntime, answer: &Result<Receipt, (Ticket, Refusal)>) -> io::Result<()> {
     match answer {
         Ok(receipt) => print_receipt(rt, receipt),
-        Err((ticket, refusal)) => {
-            let cue = ticket.cue();
-            let number = refusal.number();
-            println!(rt; "not ended, {number}, the ticket for cue {cue} is back")
-        }
+        Err((ticket, refusal)) => println!(rt;
+            "not ended, {}, the ticket for cue {} is back",
+            refusal.number(),
+            ticket.cue()
+        ),
     }
 }
 
@@ -90,8 +76,7 @@ fn full(rt: &HostRuntime, book: &mut Book<'_, Axis>) -> io::Result<()> {
     match book.end(ticket, Ending::Commit) {
         Ok(receipt) => print_receipt(rt, &receipt),
         Err((back, refusal)) => {
-            let number = refusal.number();
-            println!(rt; "not ended, {number}")?;
+            println!(rt; "not ended, {}", refusal.number())?;
             print_place(rt, book.record(&back, Step::Read(LIGHT)))?;
             print_ended(rt, &book.end(back, Ending::Abort))
         }
@@ -99,10 +84,10 @@ fn full(rt: &HostRuntime, book: &mut Book<'_, Axis>) -> io::Result<()> {
 }
 
 fn main(rt: HostRuntime) -> io::Result<()> {
-    let mut memory = [FREE; 8];
+    let mut memory = [Entry::FREE; 8];
     let mut book = Book::new(&mut memory);
     in_turn(&rt, &mut book)?;
     refused(&rt, &book)?;
-    let mut little = [FREE; 1];
+    let mut little = [Entry::FREE; 1];
     full(&rt, &mut Book::new(&mut little))
 }
