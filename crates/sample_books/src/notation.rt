@@ -1,14 +1,7 @@
 // Entries in the textbook's notation: a letter, the cue, and in brackets the item.
 use history::{Act, Entry};
 use items::Item;
-
-// The item that a word says: the kind reads it as it stands in a sheet, right-justified in eight columns.
-fn item_of<K: Item>(word: &str) -> Option<K> {
-    let mut field = [b' '; 8];
-    let first = field.len().checked_sub(word.len())?;
-    field[first..].copy_from_slice(word.as_bytes());
-    K::read(&field)
-}
+use words::item_of;
 
 // The entry that a word says, as w1(5).
 pub fn entry_of<K: Item>(word: &str) -> Option<Entry<K>> {

@@ -1,0 +1,17 @@
+// Items as single words, as scripts and sample books say them.
+#![tactic(auto)]
+
+ghost use Rattle.std.specs.Prelude.{◌≡◌};
+ghost use Rattle.words.specs.Words.{item_in};
+
+use items::Item;
+
+// The item that a word says: the kind reads it as it stands in a sheet, right-justified in eight columns.
+pub fn item_of<K: Item>(word: &str) -> Option<K>
+    ensures { result ≡ item_in K.Item.parsed word.now }
+{
+    let mut field = [b' '; 8];
+    let first = field.len().checked_sub(word.len())?;
+    field[first..].copy_from_slice(word.as_bytes());
+    K::read(&field)
+}
