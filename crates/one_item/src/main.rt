@@ -8,8 +8,8 @@ ghost use Rattle.std.proofs.Common.{rules};
 use book::{Step, Ticket};
 use history::{Act, Ending, Entry};
 use items::Item;
-use runs::{Answer, Call, Cues, perform};
-use std::io;
+use runs::{Answer, Call, Cues, Failure, perform};
+use std::{array, fmt, io};
 
 // Items that differ in their number and are the same for a book.
 #[derive(Clone, Copy)]
@@ -50,11 +50,6 @@ impl Item for Anything {
 // How many calls a run has here.
 const CALLS: usize = 12;
 
-const FREE: Entry<Anything> = Entry {
-    cue: 0,
-    act: Act::Abort,
-};
-
 // The second cue reads what the first wrote, though by another number.
 const ONE_WAY: [Call<'static, Anything>; 7] = [
     Call::Enter(Entry {
@@ -84,63 +79,56 @@ const BOTH_WAYS: [Call<'static, Anything>; 11] = [
     Call::Views,
 ];
 
-fn print_cues(rt: &HostRuntime, word: &str, cues: &Cues) -> io::Result<()> {
-    print!(rt; "{word}")?;
-    for cue in cues.list.iter().take(cues.count) {
-        print!(rt; " {cue}")?;
+// An answer as it is printed.
+#[derive(Clone, Copy)]
+struct Shown<'a>(&'a Result<Answer, Failure>);
+
+// Cues after a word for what they are.
+#[derive(Clone, Copy)]
+struct Row<'a>(&'a str, &'a Cues);
+
+impl fmt::Display for Row<'_> {
+    fn fmt<W: fmt::Write>(&self, f: &mut fmt::Formatter<W>) -> fmt::Result {
+        f.write_str(self.0)?;
+        for cue in self.1.as_slice() {
+            write!(f, " {cue}")?;
+        }
+        Ok(())
     }
-    println!(rt; "")
 }
 
-fn print_number(rt: &HostRuntime, word: &str, number: usize) -> io::Result<()> {
-    println!(rt; "{word} {number}")
-}
-
-fn print_answer(rt: &HostRuntime, answer: &Answer) -> io::Result<()> {
-    match answer {
-        Answer::Place(place) => print_number(rt, "place", *place),
-        Answer::Lines(lines) => print_number(rt, "lines", *lines),
-        Answer::Ticket(number) => print_number(rt, "ticket", *number),
-        Answer::Receipt(place, _) => print_number(rt, "receipt", *place),
-        Answer::Class(class) => {
-            let number = class.number();
-            let place = class.place();
-            println!(rt; "class {number} {place}")
+impl fmt::Display for Shown<'_> {
+    fn fmt<W: fmt::Write>(&self, f: &mut fmt::Formatter<W>) -> fmt::Result {
+        match self.0 {
+            Ok(Answer::Place(place)) => write!(f, "place {place}"),
+            Ok(Answer::Lines(lines)) => write!(f, "lines {lines}"),
+            Ok(Answer::Ticket(number)) => write!(f, "ticket {number}"),
+            Ok(Answer::Receipt(place, _)) => write!(f, "receipt {place}"),
+            Ok(Answer::Class(class)) => write!(f, "class {} {}", class.number(), class.place()),
+            Ok(Answer::Order(cues)) => Row("order", cues).fmt(f),
+            Ok(Answer::Cycle(cues)) => Row("cycle", cues).fmt(f),
+            Ok(Answer::Views(Some(cues))) => Row("views", cues).fmt(f),
+            Ok(Answer::Views(None)) => f.write_str("no views"),
+            Ok(Answer::Why(Some(pair))) => write!(f, "why {} {}", pair.first, pair.second),
+            Ok(Answer::Why(None)) => f.write_str("no why"),
+            Err(Failure::Refused(refusal)) => write!(f, "refused {}", refusal.number()),
+            Err(Failure::Fault(_)) => f.write_str("a line was not read"),
+            Err(Failure::NoTicket) => f.write_str("no ticket"),
         }
-        Answer::Order(cues) => print_cues(rt, "order", cues),
-        Answer::Cycle(cues) => print_cues(rt, "cycle", cues),
-        Answer::Views(cues) => print_cues(rt, "views", cues),
-        Answer::NoViews => println!(rt; "no views"),
-        Answer::Why(pair) => {
-            let first = pair.first;
-            let second = pair.second;
-            println!(rt; "why {first} {second}")
-        }
-        Answer::NoWhy => println!(rt; "no why"),
-        Answer::Refused(refusal) => {
-            let number = refusal.number();
-            println!(rt; "refused {number}")
-        }
-        Answer::Fault(_) => println!(rt; "a line was not read"),
-        Answer::NoTicket => println!(rt; "no ticket"),
     }
 }
 
 fn run(rt: &HostRuntime, calls: &[Call<'_, Anything>]) -> io::Result<()> {
-    let mut memory = [FREE; CALLS];
-    let mut answers = [Answer::NoTicket; CALLS];
-    let mut tickets: [Option<Ticket>; CALLS] = [
-        None, None, None, None, None, None, None, None, None, None, None, None,
-    ];
-    match perform(&mut memory, calls, &mut answers, &mut tickets) {
-        Ok(()) => {
-            for answer in answers.iter().take(calls.len()) {
-                print_answer(rt, answer)?;
-            }
-            Ok(())
-        }
-        Err(_) => println!(rt; "the run wants more"),
+    let mut memory = [Entry::FREE; CALLS];
+    let mut answers = [Err(Failure::NoTicket); CALLS];
+    let mut tickets: [Option<Ticket>; CALLS] = array::from_fn(|_| None);
+    if perform(&mut memory, calls, &mut answers, &mut tickets).is_err() {
+        return println!(rt; "the run wants more");
     }
+    for answer in answers.iter().take(calls.len()) {
+        println!(rt; "{}", Shown(answer))?;
+    }
+    Ok(())
 }
 
 fn main(rt: HostRuntime) -> io::Result<()> {

@@ -1,100 +1,57 @@
 // The answers to calls, in words.
-use crate::refused::{layer_words, refusal_words};
-use crate::scripts::print_lines;
-use book::ReadFault;
+use crate::scripts::Lines;
 use history::Ending;
-use recovery::Class;
-use refusals::Refusal;
-use runs::{Answer, Cues, Want};
-use serial::Pair;
-use std::io;
+use runs::{Answer, Failure};
+use std::fmt;
 
-fn print_read(rt: &HostRuntime, count: usize) -> io::Result<()> {
-    print_lines(rt, count)?;
-    println!(rt; " read")
-}
+// Cues with blanks between. An order of no cues would leave the line empty.
+#[derive(Clone, Copy)]
+struct Row<'a>(&'a [u32]);
 
-fn print_receipt(rt: &HostRuntime, place: usize, ending: Ending) -> io::Result<()> {
-    let word = match ending {
-        Ending::Commit => "commit",
-        Ending::Abort => "abort",
-    };
-    println!(rt; "receipt, place {place}, {word}")
-}
-
-fn print_class(rt: &HostRuntime, class: Class) -> io::Result<()> {
-    let number = class.number();
-    let place = class.place();
-    println!(rt; "{number}, place {place}")
-}
-
-// Prints the cues with blanks between.
-fn print_cues(rt: &HostRuntime, cues: &Cues) -> io::Result<()> {
-    for (k, cue) in cues.list.iter().take(cues.count).enumerate() {
-        if k > 0 {
-            print!(rt; " ")?;
+impl fmt::Display for Row<'_> {
+    fn fmt<W: fmt::Write>(&self, f: &mut fmt::Formatter<W>) -> fmt::Result {
+        let Some((first, rest)) = self.0.split_first() else {
+            return f.write_str("no cue is committed");
+        };
+        write!(f, "{first}")?;
+        for cue in rest {
+            write!(f, " {cue}")?;
         }
-        print!(rt; "{cue}")?;
-    }
-    println!(rt; "")
-}
-
-// An order of no cues would leave the line empty.
-fn print_order(rt: &HostRuntime, cues: &Cues) -> io::Result<()> {
-    if cues.count == 0 {
-        return println!(rt; "no cue is committed");
-    }
-    print_cues(rt, cues)
-}
-
-fn print_cycle(rt: &HostRuntime, cues: &Cues) -> io::Result<()> {
-    print!(rt; "cycle ")?;
-    print_cues(rt, cues)
-}
-
-fn print_why(rt: &HostRuntime, pair: Pair) -> io::Result<()> {
-    let first = pair.first;
-    let second = pair.second;
-    println!(rt; "places {first} and {second}")
-}
-
-fn print_refused(rt: &HostRuntime, refusal: Refusal) -> io::Result<()> {
-    let number = refusal.number();
-    let words = refusal_words(refusal);
-    println!(rt; "refused, {number}: {words}")
-}
-
-fn print_read_fault(rt: &HostRuntime, fault: ReadFault) -> io::Result<()> {
-    let line = fault.line;
-    let number = fault.layer.number();
-    let words = layer_words(fault.layer);
-    println!(rt; "fault {number} in line {line}: {words}")
-}
-
-// Prints an answer, and ends the line.
-pub fn print_answer(rt: &HostRuntime, answer: Answer) -> io::Result<()> {
-    match answer {
-        Answer::Place(place) => println!(rt; "place {place}"),
-        Answer::Lines(count) => print_read(rt, count),
-        Answer::Ticket(number) => println!(rt; "ticket {number}"),
-        Answer::Receipt(place, ending) => print_receipt(rt, place, ending),
-        Answer::Class(class) => print_class(rt, class),
-        Answer::Order(cues) => print_order(rt, &cues),
-        Answer::Cycle(cues) => print_cycle(rt, &cues),
-        Answer::Views(cues) => print_order(rt, &cues),
-        Answer::NoViews => println!(rt; "none"),
-        Answer::Why(pair) => print_why(rt, pair),
-        Answer::NoWhy => println!(rt; "none"),
-        Answer::Refused(refusal) => print_refused(rt, refusal),
-        Answer::Fault(fault) => print_read_fault(rt, fault),
-        Answer::NoTicket => println!(rt; "no such ticket, or it is used up"),
+        Ok(())
     }
 }
 
-// What a run wanted more of; it has performed nothing then.
-pub fn want_words(want: Want) -> &'static str {
-    match want {
-        Want::Answers => "nothing is performed: there is not a cell for each answer",
-        Want::Tickets => "nothing is performed: there is not a cell for a ticket for each call",
+// What a call is told.
+#[derive(Clone, Copy)]
+pub struct Told<'a>(pub &'a Result<Answer, Failure>);
+
+impl fmt::Display for Told<'_> {
+    fn fmt<W: fmt::Write>(&self, f: &mut fmt::Formatter<W>) -> fmt::Result {
+        match self.0 {
+            Ok(Answer::Place(place)) => write!(f, "place {place}"),
+            Ok(Answer::Lines(count)) => write!(f, "{} read", Lines(*count)),
+            Ok(Answer::Ticket(number)) => write!(f, "ticket {number}"),
+            Ok(Answer::Receipt(place, Ending::Commit)) => {
+                write!(f, "receipt, place {place}, commit")
+            }
+            Ok(Answer::Receipt(place, Ending::Abort)) => write!(f, "receipt, place {place}, abort"),
+            Ok(Answer::Class(class)) => write!(f, "{}, place {}", class.number(), class.place()),
+            Ok(Answer::Order(cues) | Answer::Views(Some(cues))) => {
+                write!(f, "{}", Row(cues.as_slice()))
+            }
+            Ok(Answer::Cycle(cues)) => write!(f, "cycle {}", Row(cues.as_slice())),
+            Ok(Answer::Why(Some(pair))) => {
+                write!(f, "places {} and {}", pair.first, pair.second)
+            }
+            Ok(Answer::Views(None) | Answer::Why(None)) => f.write_str("none"),
+            Err(Failure::Refused(refusal)) => {
+                write!(f, "refused, {}: {refusal}", refusal.number())
+            }
+            Err(Failure::Fault(fault)) => {
+                let number = fault.layer.number();
+                write!(f, "fault {number} in line {}: {}", fault.line, fault.layer)
+            }
+            Err(Failure::NoTicket) => f.write_str("no such ticket, or it is used up"),
+        }
     }
 }

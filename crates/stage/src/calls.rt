@@ -1,72 +1,77 @@
 // The calls that the words of a script say.
-use crate::faults::{Expected, Fault};
+use crate::faults::{Expected, Fault, Unread};
+use crate::kinds::Kind;
 use crate::scripts::Said;
 use book::Step;
 use history::{Act, Ending, Entry};
-use items::Item;
 use runs::Call;
-use std::alloc::AllocError;
-use std::str::SplitWhitespace;
+use std::alloc::Global;
+use std::str::{FromStr, SplitWhitespace};
+use words::item_of;
 
-// Reads the next word as a cue number. Whether there is such a cue is for the book to say.
+// Reads the next word as a number. Whether there is such a cue or ticket is for the book to say.
+fn next_number<T: FromStr>(
+    words: &mut SplitWhitespace<'_>,
+    expected: Expected,
+) -> Result<T, Expected>
+where
+    T::Err: Drop,
+{
+    let word = words.next().ok_or(expected)?;
+    word.parse::<T>().ok().ok_or(expected)
+}
+
 fn next_cue(words: &mut SplitWhitespace<'_>) -> Result<u32, Expected> {
-    let word = words.next().ok_or(Expected::Cue)?;
-    word.parse::<u32>().ok().ok_or(Expected::Cue)
+    next_number(words, Expected::Cue)
 }
 
 fn next_ticket(words: &mut SplitWhitespace<'_>) -> Result<usize, Expected> {
-    let word = words.next().ok_or(Expected::Ticket)?;
-    word.parse::<usize>().ok().ok_or(Expected::Ticket)
+    next_number(words, Expected::Ticket)
 }
 
-// The item that a word says: the kind reads it as it stands in a sheet, right-justified in eight columns.
-fn item_of<K: Item>(word: &[u8]) -> Option<K> {
-    let mut field = [b' '; 8];
-    if word.len() > 8 {
-        return None;
-    }
-    let first = 8 - word.len();
-    for k in 0..word.len() {
-        field[first + k] = word[k];
-    }
-    K::read(&field)
+fn next_item<K: Kind>(words: &mut SplitWhitespace<'_>) -> Result<K, Expected> {
+    let expected = Expected::Item(K::ITEM);
+    item_of(words.next().ok_or(expected)?).ok_or(expected)
 }
 
-fn next_item<K: Item>(words: &mut SplitWhitespace<'_>) -> Result<K, Expected> {
-    let word = words.next().ok_or(Expected::Item)?;
-    item_of(word.as_bytes()).ok_or(Expected::Item)
-}
-
-fn next_act<K: Item>(words: &mut SplitWhitespace<'_>) -> Result<Act<K>, Expected> {
-    match words.next() {
-        Some("r") => Ok(Act::Read(next_item(words)?)),
-        Some("w") => Ok(Act::Write(next_item(words)?)),
-        Some("c") => Ok(Act::Commit),
-        Some("a") => Ok(Act::Abort),
-        _ => Err(Expected::Act),
+// The ending that a letter says.
+fn ending(letter: &str) -> Option<Ending> {
+    match letter {
+        "c" => Some(Ending::Commit),
+        "a" => Some(Ending::Abort),
+        _ => None,
     }
 }
 
-fn next_step<K: Item>(words: &mut SplitWhitespace<'_>) -> Result<Step<K>, Expected> {
-    match words.next() {
-        Some("r") => Ok(Step::Read(next_item(words)?)),
-        Some("w") => Ok(Step::Write(next_item(words)?)),
-        _ => Err(Expected::Step),
+// The step that a letter begins, with the next word as its item.
+fn step<K: Kind>(
+    letter: &str,
+    words: &mut SplitWhitespace<'_>,
+) -> Result<Option<Step<K>>, Expected> {
+    match letter {
+        "r" => Ok(Some(Step::Read(next_item(words)?))),
+        "w" => Ok(Some(Step::Write(next_item(words)?))),
+        _ => Ok(None),
     }
 }
 
 fn next_ending(words: &mut SplitWhitespace<'_>) -> Result<Ending, Expected> {
-    match words.next() {
-        Some("c") => Ok(Ending::Commit),
-        Some("a") => Ok(Ending::Abort),
-        _ => Err(Expected::Ending),
-    }
+    let letter = words.next().ok_or(Expected::Ending)?;
+    ending(letter).ok_or(Expected::Ending)
 }
 
-fn next_entry<K: Item>(words: &mut SplitWhitespace<'_>) -> Result<Entry<K>, Expected> {
-    let cue = next_cue(words)?;
-    let act = next_act(words)?;
-    Ok(Entry { cue, act })
+fn next_step<K: Kind>(words: &mut SplitWhitespace<'_>) -> Result<Step<K>, Expected> {
+    let letter = words.next().ok_or(Expected::Step)?;
+    step(letter, words)?.ok_or(Expected::Step)
+}
+
+fn next_act<K: Kind>(words: &mut SplitWhitespace<'_>) -> Result<Act<K>, Expected> {
+    let letter = words.next().ok_or(Expected::Act)?;
+    if let Some(ending) = ending(letter) {
+        return Ok(Act::from(ending));
+    }
+    let step = step(letter, words)?.ok_or(Expected::Act)?;
+    Ok(Act::from(step))
 }
 
 // Why a first word begins no call.
@@ -79,35 +84,30 @@ fn no_call(first: &str) -> Expected {
 }
 
 // Reads a call up to its last word.
-fn next_call<'a, K: Item>(
+fn next_call<'a, K: Kind>(
     words: &mut SplitWhitespace<'_>,
     sheet: &'a [u8],
 ) -> Result<Call<'a, K>, Expected> {
     let first = words.next().ok_or(Expected::Call)?;
     match first {
-        "enter" => Ok(Call::Enter(next_entry(words)?)),
+        "enter" => Ok(Call::Enter(Entry {
+            cue: next_cue(words)?,
+            act: next_act(words)?,
+        })),
         "sheet" => Ok(Call::ReadIn(sheet)),
         "begin" => Ok(Call::Begin(next_cue(words)?)),
-        "record" => {
-            let ticket = next_ticket(words)?;
-            Ok(Call::Record(ticket, next_step(words)?))
-        }
-        "end" => {
-            let ticket = next_ticket(words)?;
-            Ok(Call::End(ticket, next_ending(words)?))
-        }
+        "record" => Ok(Call::Record(next_ticket(words)?, next_step(words)?)),
+        "end" => Ok(Call::End(next_ticket(words)?, next_ending(words)?)),
         "class" => Ok(Call::Class),
         "order" => Ok(Call::Order),
         "views" => Ok(Call::Views),
-        "why" => {
-            let i = next_cue(words)?;
-            Ok(Call::Why(i, next_cue(words)?))
-        }
+        "why" => Ok(Call::Why(next_cue(words)?, next_cue(words)?)),
         _ => Err(no_call(first)),
     }
 }
 
-fn call_of<'a, K: Item>(said: &'a Said<'_>) -> Result<Call<'a, K>, Expected> {
+// Reads the whole of a call.
+fn whole_call<'a, K: Kind>(said: &'a Said<'_>) -> Result<Call<'a, K>, Expected> {
     let mut words = said.words.split_whitespace();
     let call = next_call(&mut words, said.sheet.as_slice())?;
     match words.next() {
@@ -116,21 +116,21 @@ fn call_of<'a, K: Item>(said: &'a Said<'_>) -> Result<Call<'a, K>, Expected> {
     }
 }
 
+fn call_of<'a, K: Kind>(said: &'a Said<'_>) -> Result<Call<'a, K>, Fault> {
+    whole_call(said).map_err(|expected| Fault {
+        line: said.line,
+        expected,
+    })
+}
+
 // Reads the calls in turn, up to the first that cannot be read.
-pub fn read_calls<'a, K: Item>(
+pub fn read_calls<'a, K: Kind>(
+    heap: Global,
     said: &'a [Said<'_>],
-    calls: &mut Vec<Call<'a, K>>,
-) -> Result<Option<Fault>, AllocError> {
+) -> Result<Vec<Call<'a, K>>, Unread> {
+    let mut calls = Vec::new(heap);
     for one in said {
-        match call_of(one) {
-            Ok(call) => calls.push(call)?,
-            Err(expected) => {
-                return Ok(Some(Fault {
-                    line: one.line,
-                    expected,
-                }));
-            }
-        }
+        calls.push(call_of(one)?)?;
     }
-    Ok(None)
+    Ok(calls)
 }

@@ -1,11 +1,6 @@
 // Why a line of a script cannot be read.
-
-// The kind of the items of a script.
-#[derive(Clone, Copy)]
-pub enum Kind {
-    Axes,
-    Marks,
-}
+use std::alloc::{AllocError, AllocFailed};
+use std::fmt;
 
 // What should have stood where reading stopped.
 #[derive(Clone, Copy)]
@@ -17,13 +12,14 @@ pub enum Expected {
     Act,
     Step,
     Ending,
-    Item,
+    // An item, in the words of its kind.
+    Item(&'static str),
     End,
 }
 
-impl Expected {
-    pub fn words(self, kind: Kind) -> &'static str {
-        match self {
+impl fmt::Display for Expected {
+    fn fmt<W: fmt::Write>(&self, f: &mut fmt::Formatter<W>) -> fmt::Result {
+        f.write_str(match self {
             Expected::Call => {
                 "a call: enter, begin, record, end, sheet, class, order, views or why"
             }
@@ -33,12 +29,9 @@ impl Expected {
             Expected::Act => "r, w, c or a",
             Expected::Step => "r or w",
             Expected::Ending => "c or a",
-            Expected::Item => match kind {
-                Kind::Axes => "an axis, 0 to 65535",
-                Kind::Marks => "a mark, 1 to 8 letters",
-            },
+            Expected::Item(words) => *words,
             Expected::End => "no more words",
-        }
+        })
     }
 }
 
@@ -47,4 +40,29 @@ impl Expected {
 pub struct Fault {
     pub line: usize,
     pub expected: Expected,
+}
+
+impl fmt::Display for Fault {
+    fn fmt<W: fmt::Write>(&self, f: &mut fmt::Formatter<W>) -> fmt::Result {
+        write!(f, "line {}: expected {}", self.line, self.expected)
+    }
+}
+
+// Why the calls of a script are not read.
+#[derive(Clone, Copy)]
+pub enum Unread {
+    Fault(Fault),
+    Memory(AllocError),
+}
+
+impl From<Fault> for Unread {
+    fn from(fault: Fault) -> Unread {
+        Unread::Fault(fault)
+    }
+}
+
+impl<T: Drop> From<AllocFailed<T>> for Unread {
+    fn from(failed: AllocFailed<T>) -> Unread {
+        Unread::Memory(AllocError::from(failed))
+    }
 }
