@@ -49,17 +49,15 @@ fn show(
 
 // Each winch waits for the next, so that the last moves first; then the last waits for the first as well.
 fn show_chains(rt: &HostRuntime) -> anyhow::Result<()> {
-    let mut rows = Vec::new(rt.alloc());
-    for n in 1..64u32 {
-        rows.push(Wait {
+    let mut rows: Vec<Wait> = (1..64u32)
+        .map(|n| Wait {
             winch: n,
             awaited: n + 1,
-        })?;
+        })
+        .collect(rt.alloc())?;
+    for (cells, bytes) in [(64usize, 64usize), (65, 100), (63, 64), (63, 63)] {
+        show(rt, "a chain backwards", rows.as_slice(), cells, bytes)?;
     }
-    show(rt, "a chain backwards", rows.as_slice(), 64, 64)?;
-    show(rt, "a chain backwards", rows.as_slice(), 65, 100)?;
-    show(rt, "a chain backwards", rows.as_slice(), 63, 64)?;
-    show(rt, "a chain backwards", rows.as_slice(), 63, 63)?;
     rows.push(Wait {
         winch: 64,
         awaited: 1,
@@ -78,24 +76,13 @@ fn main(rt: HostRuntime) -> anyhow::Result<()> {
     show_chains(&rt)?;
     show(&rt, "no number", &[], 0, 64)?;
     show(&rt, "no number", &[], 3, 64)?;
-    let row = Wait {
-        winch: 7,
-        awaited: 7,
-    };
-    show_row(&rt, "a winch that waits for itself", row, 1)?;
-    let row = Wait {
-        winch: 2,
-        awaited: 9,
-    };
-    show_row(&rt, "a winch that waits for another", row, 2)?;
-    let row = Wait {
-        winch: 0,
-        awaited: 1,
-    };
-    show_row(&rt, "winch 0", row, 0)?;
-    let row = Wait {
-        winch: 1,
-        awaited: 65,
-    };
-    show_row(&rt, "winch 65", row, 64)
+    for (name, winch, awaited, cells) in [
+        ("a winch that waits for itself", 7u32, 7u32, 1usize),
+        ("a winch that waits for another", 2, 9, 2),
+        ("winch 0", 0, 1, 0),
+        ("winch 65", 1, 65, 64),
+    ] {
+        show_row(&rt, name, Wait { winch, awaited }, cells)?;
+    }
+    Ok(())
 }
