@@ -72,36 +72,20 @@ fn axis(n: usize) -> Axis {
 }
 
 impl Kind {
-    // How many entries come before the commits.
-    fn body(self) -> usize {
-        match self {
-            Kind::TwoSources => SOURCES.len(),
-            _ => BODY,
-        }
-    }
-
-    // What entry `i` does.
-    fn act(self, i: usize) -> Act<Axis> {
-        match self {
-            Kind::WritesApart => Act::Write(axis(i)),
-            Kind::WritesTogether => Act::Write(axis(7)),
-            Kind::ReadsThenWrites if i < BODY / 2 => Act::Read(axis(i)),
-            Kind::ReadsThenWrites => Act::Write(axis(i)),
-            Kind::ReadsAndWrites if i % 2 == 0 => Act::Read(axis(7)),
-            Kind::ReadsAndWrites => Act::Write(axis(7)),
-            Kind::WrittenTwice if i % 3 == 2 => Act::Read(axis(i / 3)),
-            Kind::WrittenTwice => Act::Write(axis(i / 3)),
-            Kind::TwoSources => SOURCES[i % 8].1,
-        }
-    }
-
-    // The cue that makes entry `i`.
-    fn cue(self, i: usize) -> u32 {
-        match self {
-            Kind::ReadsAndWrites => (i / 2 % 8) as u32 + 1,
-            Kind::TwoSources => SOURCES[i % 8].0,
-            _ => (i % 8) as u32 + 1,
-        }
+    // Which cue makes entry `i`, and what it does. A full book has more of them than it has room for.
+    fn entry(self, i: usize) -> Option<(u32, Act<Axis>)> {
+        let (turn, act) = match self {
+            Kind::WritesApart => (i, Act::Write(axis(i))),
+            Kind::WritesTogether => (i, Act::Write(axis(7))),
+            Kind::ReadsThenWrites if i < BODY / 2 => (i, Act::Read(axis(i))),
+            Kind::ReadsThenWrites => (i, Act::Write(axis(i))),
+            Kind::ReadsAndWrites if i % 2 == 0 => (i / 2, Act::Read(axis(7))),
+            Kind::ReadsAndWrites => (i / 2, Act::Write(axis(7))),
+            Kind::WrittenTwice if i % 3 == 2 => (i, Act::Read(axis(i / 3))),
+            Kind::WrittenTwice => (i, Act::Write(axis(i / 3))),
+            Kind::TwoSources => return SOURCES.get(i).copied(),
+        };
+        Some(((turn % 8) as u32 + 1, act))
     }
 }
 
@@ -111,10 +95,10 @@ fn enter(book: &mut Book<'_, Axis>, cue: u32, act: Act<Axis>) {
 
 // A book of a kind, with eight committed cues.
 fn fill(book: &mut Book<'_, Axis>, kind: Kind) {
-    for i in 0..kind.body() {
-        enter(book, kind.cue(i), kind.act(i));
+    for (cue, act) in (0..BODY).map_while(|i| kind.entry(i)) {
+        enter(book, cue, act);
     }
-    for cue in 1..9u32 {
+    for cue in 1..=8u32 {
         enter(book, cue, Act::Commit);
     }
 }
