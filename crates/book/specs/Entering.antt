@@ -19,9 +19,9 @@ module _ {K : Type 0} where
   abbrev pub entered : ℕ → List (Entry K) → ℕ → Result ℕ Refusal
   entered places es n = cond (not (is_cue n)) (Err NoSuchCue) (cond (ended es n) (Err CueEnded) (cond (nat_le places (length es)) (Err BookFull) (Ok (length es + 1))))
 
-  -- the entries after that answer
-  abbrev pub grown : Result ℕ Refusal → Entry K → List (Entry K) → List (Entry K)
-  grown (Ok place) e es = es ++ e ∷ []
+  -- the entries after the answer of a call that accepts the entry, whatever it answers with
+  abbrev pub grown : {A F : Type 0} → Result A F → Entry K → List (Entry K) → List (Entry K)
+  grown (Ok answer) e es = es ++ e ∷ []
   grown (Err refusal) e es = es
 
   -- what a call that accepts entries leaves of a book b: the accepted entries at the front of its memory, the rest of which is as it was, and counted

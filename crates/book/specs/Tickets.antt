@@ -30,8 +30,3 @@ module _ {K : Type 0} where
 abbrev pub closed : Ticket → Ending → Result ℕ Refusal → Result Receipt (Ticket × Refusal)
 closed t ending (Ok place) = Ok (record { place = place; ending = ending })
 closed t ending (Err refusal) = Err (t, refusal)
-
--- the entries after that answer
-abbrev pub grown_by_ending : {K : Type 0} → Result Receipt (Ticket × Refusal) → Entry K → List (Entry K) → List (Entry K)
-grown_by_ending (Ok receipt) e es = es ++ e ∷ []
-grown_by_ending (Err back) e es = es

@@ -2,7 +2,7 @@
 ghost use Rattle.std.specs.Prelude.{◌≡◌};
 ghost use Rattle.history.specs.Endings.{act_of};
 ghost use Rattle.book.specs.Entering.{room, accepted, entered, grown, Lays};
-ghost use Rattle.book.specs.Tickets.{begun, stepped, under, closed, grown_by_ending};
+ghost use Rattle.book.specs.Tickets.{begun, stepped, under, closed};
 
 use crate::Book;
 use history::{Act, Ending, Entry, has_acted, is_cue};
@@ -82,7 +82,7 @@ impl<'a, K: Copy> Book<'a, K> {
     // Ends the ticket's cue and gives a receipt for the ticket, or gives the ticket back with the refusal.
     pub fn end(&mut self, ticket: Ticket, ending: Ending) -> Result<Receipt, (Ticket, Refusal)>
         ensures answer { result ≡ closed ticket ending (entered (room self.old) (accepted self.old) ticket.cue) }
-        ensures grows { accepted self.new ≡ grown_by_ending result (under ticket (act_of ending)) (accepted self.old) }
+        ensures grows { accepted self.new ≡ grown result (under ticket (act_of ending)) (accepted self.old) }
         ensures lays { Lays self.old self.new }
     {
         match self.enter(ticket.entry_of(Act::from(ending))) {

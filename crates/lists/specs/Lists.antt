@@ -18,11 +18,6 @@ module _ {X : Type 0} where
   last_where test [] = None
   last_where test (x ∷ xs) = or_else (last_where test xs) (cond (test x) (Some x) None)
 
-  -- the index of the first that passes, or the length
-  abbrev pub first_at : (X → Bool) → List X → ℕ
-  first_at test [] = 0
-  first_at test (x ∷ xs) = cond (test x) 0 (suc (first_at test xs))
-
   -- each element by its place, from p on
   abbrev pub placed : ℕ → List X → List (ℕ × X)
   placed p [] = []
@@ -43,10 +38,6 @@ module _ {X : Type 0} where
   passes test seen [] i = false
   passes test seen (x ∷ xs) zero = test seen x
   passes test seen (x ∷ xs) (suc i) = passes test (seen ++ x ∷ []) xs i
-
-  -- xs over the list, from index i on
-  abbrev pub laid : ℕ → List X → List X → List X
-  laid i xs list = take i list ++ (xs ++ drop (i + length xs) list)
 
   -- each two elements pass, the earlier one first
   abbrev pub every_pair : (X → X → Bool) → List X → Bool

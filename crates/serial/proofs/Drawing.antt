@@ -93,10 +93,6 @@ or_none true = refl
 or_none false = refl
 
 module _ {K : Type 0} (alike : K → K → Bool) (cues : List Bool) (es : List (Entry K)) where
-  pub drawing_all : (x : Entry K) (q : ℕ) (start row : List Bool) → drop q es ≡ [] → Drawing alike cues x es q start row → Adds alike cues start row x es
-  drawing_all x q start row e all j mj =
-      sym (or_none (marked row j)) ∙ ap (λ (ys : List (Entry K)). marked row j || some (joins alike x.cue j x) ys) (sym e) ∙ all j mj
-
   -- the graph has the arrows of the pairs whose earlier entry has come
   abbrev pub Drew : (p : ℕ) (edges : List (List Bool)) → Type 0
   Drew p edges = (i j : ℕ) → marked cues i ≡ true → marked cues j ≡ true → (drawn edges i j || some_pair (joins alike i j) (drop p es)) ≡ arrow alike es i j

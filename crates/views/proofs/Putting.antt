@@ -9,9 +9,6 @@ use Rattle.views.specs.declared.members.Members.{Members}
 use Rattle.views.specs.Noted.{Notes, Member, Within, none_ahead, none_apart, other, first, PutsAhead, PutsApart, third, split}
 use Rattle.views.proofs.Noting.{notes_same, notes_two, upto_more, upto_past}
 
-marked_low : (table : List Bool) (n : ℕ) → marked table n ≡ true → n < 65
-marked_low table n m = omega (arith, cue_high n (marked_cue table n m))
-
 -- a member of the same members
 pub same_member : (t t' : Constraints) → t'.members ≡ t.members → (n : ℕ) → Member t n → Member t' n
 same_member t t' e n m = subst (λ (ms : Members). marked ms.cues n ≡ true) (sym e) m
