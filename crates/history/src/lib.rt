@@ -122,8 +122,10 @@ pub fn committed_cues<K>(entries: &[Entry<K>]) -> [bool; 64]
     ensures { (n : ℕ) → marked result n ≡ committed entries.now n }
 {
     let mut cues = [false; 64];
-    for n in 1..65u32 {
-        cues[n as usize - 1] = is_committed(entries, n);
+    for e in entries {
+        if is_cue(e.cue) && e.act.is_commit() {
+            cues[e.cue as usize - 1] = true;
+        }
     }
     cues
 }
