@@ -24,7 +24,7 @@ module _ {K : Type 0} where
   grown (Ok answer) e es = es ++ e ∷ []
   grown (Err refusal) e es = es
 
-  -- what a call that accepts entries leaves of a book b: the accepted entries at the front of its memory, the rest of which is as it was, and counted
+  -- what a call that accepts entries leaves of a book b, a relation of the two books that each such call states: the accepted entries at the front of its memory, the rest of which is as it was, and counted
   pub record Lays (b after : Book K) : Type 0 where
     pub memory : after.memory.now ≡ accepted after ++ drop (length (accepted after)) b.memory.now
     pub size : length after.memory.now ≡ length b.memory.now

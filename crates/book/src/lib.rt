@@ -1,7 +1,7 @@
 // The book: entries in the caller's memory, in the order in which they were accepted.
 #![tactic(auto)]
 
-ghost use Rattle.std.specs.Prelude.{◌≡◌, ◌<◌, ◌≤◌, [], length, slice_set};
+ghost use Rattle.std.specs.Prelude.{◌≡◌, ◌≤◌, [], length};
 
 mod questions;
 mod sheets;
@@ -15,7 +15,8 @@ pub use tickets::{Receipt, Step, Ticket};
 // How many places a book uses at most.
 const PLACES: usize = 4096;
 
-// A book over the caller's memory, of which it uses the first 4,096 places, or all where there are fewer.
+// A book over the caller's memory, of which it uses the first 4,096 places, or all where there are fewer. Contracts see its fields,
+// and not one value in their place, since the memory past the entries is the lender's to know.
 #[derive(Drop)]
 pub struct Book<'a, K> {
     memory: &'a mut [Entry<K>],

@@ -16,7 +16,7 @@ pub struct ReadFault {
 }
 
 impl<'a, K: Item> Book<'a, K> {
-    // Enters the entry that a line says, where it has a byte.
+    // Enters the entry that a line says. A line without a byte says none.
     fn enter_line(&mut self, line: &[u8]) -> Result<(), Layer>
         ensures answer { result ≡ told (next_entered K.Item.parsed (room self.old) (accepted self.old) line.now) }
         ensures grows { accepted self.new ≡ added (accepted self.old) (next_entered K.Item.parsed (room self.old) (accepted self.old) line.now) }

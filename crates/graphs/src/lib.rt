@@ -1,12 +1,11 @@
 // The first order in dictionary order of a graph's numbers that follows every edge, or a cycle.
 #![tactic(auto)]
 
-ghost use Rattle.std.specs.Prelude.{◌≡◌, ℕ, ◌+◌, ◌-◌, ◌<◌, ◌≤◌, Bool, true, false, List, length, take, drop, MatchOption, find, replicate, slice_set};
-ghost use Rattle.std.specs.List.{range_with_len};
+ghost use Rattle.std.specs.Prelude.{◌≡◌, ℕ, ◌+◌, ◌-◌, ◌≤◌, Bool, true, false, List, length, take, drop, MatchOption, replicate, slice_set};
 ghost use Rattle.graphs.specs.Edges.{FollowsForward};
 ghost use Rattle.graphs.specs.Answer.{Finds, search_refusal, refusal_in, strip_after, Lists};
 ghost use Rattle.orders.specs.Orders.{among};
-ghost use Rattle.graphs.specs.Rows.{wiped, waits, mark, Ready, Stuck, Picked, Marked, Placing, Walked};
+ghost use Rattle.graphs.specs.Rows.{waits, mark, Ready, Stuck, Picked, Marked, Placing, Walked};
 ghost use Rattle.graphs.specs.Kept.{Keeps};
 
 use refusals::Refusal;
@@ -28,6 +27,7 @@ pub trait Graph {
         ensures { result ≡ edges self.now from to };
 }
 
+// What a search found, by how many cells of the list that the caller lent hold it.
 #[derive(Clone, Copy)]
 pub enum Found {
     Order(usize),
@@ -114,7 +114,7 @@ impl<G: Graph> Marks<'_, G> {
         (1..65).find(|m| self.waits(*m) && self.before(*m).is_none())
     }
 
-    // Marks each number that can be placed with its place, counted from 1.
+    // Marks each number that can be placed with its place, counted from 1: the count is the mark that is given.
     fn place(&mut self) -> u8
         requires { self.old.strip.now ≡ replicate 64 0 }
         ensures same { Keeps self.old self.new }
@@ -129,7 +129,7 @@ impl<G: Graph> Marks<'_, G> {
         placed
     }
 
-    // Walks back from `from` along waiting numbers until one comes again, and gives the cycle.
+    // Walks back from `from` along waiting numbers until one comes again, and gives the cycle. Marks fall from 128, each the next.
     fn walk(&mut self, from: u32) -> Row
         requires in_bounds { (1 ≤ from) × (from ≤ 64) }
         requires from_value { waits (G.numbers self.old.graph.now) self.old.strip.now from ≡ true }
@@ -145,7 +145,7 @@ impl<G: Graph> Marks<'_, G> {
             base -= 1;
             match self.before(at) {
                 Some(u) => at = u,
-                None => unreachable(),
+                None => unreachable!(),
             }
         }
         Row {
@@ -193,7 +193,8 @@ fn fill<G: Graph>(graph: &G, list: &mut [u32], strip: &mut [u8; 64]) -> Found
     Found::Order(placed as usize)
 }
 
-// The first order of the graph's numbers that follows every edge, or else a cycle, at the front of `list`.
+// The first order of the graph's numbers that follows every edge, or else a cycle, at the front of `list`. List and strip are the
+// caller's memory, lent each for itself.
 pub fn search<G: Graph>(graph: &G, list: &mut [u32], strip: &mut [u8]) -> Result<Found, Refusal>
     ensures refuses { refusal_in result ≡ search_refusal (G.numbers graph.now) (length list.old) (length strip.old) }
     ensures strip { strip.new ≡ strip_after result strip.old }

@@ -45,13 +45,14 @@ impl Graph for WaitList<'_> {
     }
 }
 
-// Whether a number can be a winch's.
+// Whether a number can be a winch's: as a cue's, but histories know no winch and the search no cue.
 fn is_winch(n: u32) -> bool
     ensures { result ≡ is_winch n }
 {
     (1..=64).contains(&n)
 }
 
+// Whether each number in the rows can be a winch's.
 fn all_winches(rows: &[Wait]) -> bool
     ensures { result ≡ all_winches rows.now }
 {

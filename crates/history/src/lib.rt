@@ -1,7 +1,7 @@
 // A history: the entries of a book in their order, and what they say of a cue.
 #![tactic(auto)]
 
-ghost use Rattle.std.specs.Prelude.{◌≡◌, ℕ, Bool, true};
+ghost use Rattle.std.specs.Prelude.{◌≡◌, ℕ, true};
 ghost use Rattle.history.specs.Conflicts.{conflict, writes};
 ghost use Rattle.history.specs.Endings.{act_of};
 ghost use Rattle.history.specs.Entries.{is_cue, is_commit, is_abort, ends, acted, committed, ended, opened};
@@ -82,7 +82,8 @@ pub fn is_cue(n: u32) -> bool
     (1..=64).contains(&n)
 }
 
-// Whether the cue has an entry.
+// Whether the cue has an entry. This and the next two are chains of their own: over a test that is handed in, a chain leaves its
+// goal open.
 pub fn has_acted<K>(entries: &[Entry<K>], cue: u32) -> bool
     ensures { result ≡ acted (λ a. true) entries.now cue }
 {
@@ -110,7 +111,7 @@ pub fn is_open<K>(entries: &[Entry<K>], cue: u32) -> bool
     has_acted(entries, cue) && !has_ended(entries, cue)
 }
 
-// Whether the table has the cue.
+// Whether the table has the cue. A table is a plain array, since any of them is a set of cues.
 pub fn is_marked(cues: &[bool; 64], n: u32) -> bool
     ensures { result ≡ marked cues.now n }
 {

@@ -1,5 +1,5 @@
 // Reading a line: the entry that its fields say.
-ghost use Rattle.std.specs.Prelude.{◌≡◌, length, if◌then◌else◌, Ok, Err, slice_index};
+ghost use Rattle.std.specs.Prelude.{◌≡◌, if◌then◌else◌, Ok, Err, slice_index};
 ghost use Rattle.std.specs.Option.{ok_or};
 ghost use Rattle.refusals.specs.declared.LineRefusal.TheVariants.{CueField, ItemField};
 ghost use Rattle.columns.specs.Columns.{number};

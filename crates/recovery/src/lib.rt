@@ -1,9 +1,8 @@
 // How recoverable a history is.
 #![tactic(auto)]
 
-ghost use Rattle.std.specs.Prelude.{◌≡◌, ◌+◌, ◌<◌, Bool, List, IfSome, take, drop};
+ghost use Rattle.std.specs.Prelude.{◌≡◌, ◌+◌, ◌<◌, IfSome, take, drop};
 ghost use Rattle.lists.specs.Lists.{first_from};
-ghost use Rattle.history.specs.declared.Entry.{Entry};
 ghost use Rattle.recovery.specs.Classes.{class_number, class_place, class_of};
 ghost use Rattle.recovery.specs.Rules.{Computes};
 ghost use Rattle.recovery.specs.Laws.{BreaksStay, FirstBreak, BreaksComeTogether, ClassNeverRises};
@@ -40,7 +39,7 @@ impl Class {
         }
     }
 
-    // The place of the break; 0 for a strict history.
+    // The place of the break; 0 for a strict history, as a report writes it.
     pub fn place(self) -> usize
         ensures { result ≡ class_place self }
     {

@@ -1,5 +1,4 @@
 // The graph of the committed cues, with an edge from each to those that conflicts put after it.
-ghost use Rattle.std.specs.Prelude.{◌≡◌};
 ghost use Rattle.history.specs.Marked.{marked};
 ghost use Rattle.serial.specs.Drawn.{drawn, Adds, Draws};
 

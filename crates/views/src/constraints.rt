@@ -10,8 +10,8 @@ use crate::members::Members;
 use history::{Act, Entry, is_marked, writes_item};
 use items::Item;
 
-// The constraints between the members, told by their ranks. The tables are flat, as the checker covers no literal of a struct with an
-// array of arrays.
+// The constraints between the members, told by their ranks. The tables are flat, as the checker does not cover the literal of a struct
+// with a field of three arrays in each other, which `apart` would be.
 #[derive(Clone, Copy)]
 pub struct Constraints {
     pub members: Members,
