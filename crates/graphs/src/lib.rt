@@ -48,7 +48,8 @@ struct Row {
     size: u8,
 }
 
-// A search of a graph, with its marks over the first 64 bytes of a strip, which are zero again once it is let go.
+// A search of a graph, with its marks over the first 64 bytes of a strip, which are zero again once it is let go. A mark is a byte,
+// since the caller lends no more for a number.
 struct Marks<'a, G> {
     graph: &'a G,
     strip: &'a mut [u8; 64],

@@ -28,6 +28,7 @@ pub enum Class {
 }
 
 impl Class {
+    // By a match, since a cast takes no enum whose cases hold a value.
     pub fn number(self) -> u32
         ensures { result ≡ class_number self }
     {

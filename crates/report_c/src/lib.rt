@@ -1,4 +1,4 @@
-// The report of a sheet of axes for a program in C: the call that `include/cue_report.h` declares.
+// The report of a sheet of axes for a program in C: the call that `include/cue_report.h` declares. C is told a refusal by its number.
 #![tactic(auto)]
 
 ghost use Rattle.report.specs.Report.{Reported};

@@ -67,7 +67,7 @@ fn is_third(source: u32, reader: u32, earlier: &[bool; 64], later: &[bool; 64], 
 }
 
 impl Constraints {
-    // Whether `a` must come before `b`.
+    // Whether `a` must come before `b`. Of two cues; the next is of three, with a table of its own.
     pub fn is_ahead(&self, a: u32, b: u32) -> bool
         ensures { result ≡ ahead_in self.now a b }
     {
