@@ -1,13 +1,13 @@
 -- Words and their numbers. Assumes nothing.
-use Rattle.std.specs.Prelude.{◌≡◌, ℕ, zero, suc, ◌+◌, ◌-◌, ◌*◌, ◌/◌, ◌%◌, ◌<◌, ◌≤◌, Bool, true, false, cond, ◌&&◌, ◌⊎◌, List, [], ◌∷◌, ◌++◌, map, length, drop, Some, None, Option, ◌==◌, ◌≢◌, slice_index, refl}
+use Rattle.std.specs.Prelude.{◌≡◌, ℕ, zero, suc, ◌+◌, ◌-◌, ◌*◌, ◌/◌, ◌%◌, ◌<◌, ◌≤◌, Bool, true, false, cond, ◌&&◌, ◌⊎◌, List, [], ◌∷◌, ◌++◌, map, length, drop, replicate, Some, None, Option, ◌==◌, ◌≢◌, slice_index, refl}
 use Rattle.std.proofs.Math.Bool.{and-true}
-use Rattle.std.proofs.Common.{append_assoc, append-nil, inl, inr, sym, ap, subst, ◌∙◌, arith}
-use Rattle.std.proofs.lemmas.List.{at_drop_more, at_drop_all, length_push, length-map, map_push}
+use Rattle.std.proofs.Common.{append_assoc, append-nil, inl, inr, sym, ap, subst, ◌∙◌, add-one, arith}
+use Rattle.std.proofs.lemmas.List.{at_drop_more, at_drop_all, length_push, length-map, map_push, replicate_more}
 use Rattle.std.proofs.lemmas.Bool.{and_from, and_right, eq-eqb, ne_eqb}
 use Rattle.columns.specs.Columns.{after_blanks, justified}
 use Rattle.lists.specs.Lists.{every}
 use Rattle.lists.proofs.Every.{every_rest, every_append}
-use Rattle.columns.proofs.Blanks.{no_blanks, after_blanks_justified, justified_push}
+use Rattle.columns.proofs.Blanks.{no_blanks, after_blanks_justified, justified_none, justified_push}
 use Rattle.items.specs.Fields.{equal}
 use Rattle.items.specs.Words.{folded, letter_value, letter_of, word_from, word}
 use Rattle.columns.specs.Symbols.{is_letter}
@@ -134,6 +134,18 @@ pub letter_end : (n : ℕ) (bs : List ℕ) (i : ℕ) → length bs ≤ i → let
 letter_end n bs i h = at_drop_all (letters_from n) bs i h
 
 -- Words in columns
+
+-- the last column of no word, and the columns before it
+blank_last : (a : ℕ) → justified (suc a) (word (suc a) 0) ≡ justified a (word a 0) ++ 32 ∷ []
+blank_last a =
+    justified_none (suc a)
+    ∙ sym (replicate_more a 32 ∙ ap (λ (n : ℕ). replicate n 32) (add-one a))
+    ∙ ap (λ (xs : List ℕ). xs ++ 32 ∷ []) (sym (ap (justified a) (word_none a) ∙ justified_none a))
+
+pub word_blank : (at n : ℕ) → 0 < at → n ≡ 0 → justified at (word at n) ≡ justified (at - 1) (word (at - 1) n) ++ 32 ∷ []
+word_blank at n some none =
+    let next : at ≡ suc (at - 1) = omega arith in
+    (λ i. justified (next i) (word (next i) (none i))) ∙ blank_last (at - 1) ∙ ap (λ (m : ℕ). justified (at - 1) (word (at - 1) m) ++ 32 ∷ []) (sym none)
 
 -- the last letter of a word stands in the last column
 pub word_letter : (w k n : ℕ) → k + 1 ≡ w → 0 < n → justified w (word w n) ≡ justified k (word k ((n - 1) / 52)) ++ letter_of ((n - 1) % 52 + 1) ∷ []
