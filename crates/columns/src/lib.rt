@@ -7,7 +7,7 @@ ghost use Rattle.lists.specs.Lists.{every};
 ghost use Rattle.columns.specs.Symbols.{is};
 ghost use Rattle.columns.specs.Columns.{after_blanks, digits_from, number, up_to, number_in};
 
-// What the bytes of a field can be.
+// The two tests of a byte that fields and their definitions share.
 #[derive(Clone, Copy)]
 pub enum Symbol {
     Digit,
@@ -76,6 +76,7 @@ pub fn read_number(field: &[u8], most: u32) -> Option<u32>
 }
 
 // Writes a number into a field, right-justified after blanks: its last digits where the field is too short for all.
+// By hand, since the library writes all digits of a number and not the last that fit.
 pub fn write_number(n: u32, field: &mut [u8])
     ensures { field.new ≡ number_in (length field.old) n }
 {

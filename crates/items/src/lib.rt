@@ -118,6 +118,15 @@ pub struct Mark {
 // How many words have 1 to 8 letters.
 const WORDS: u64 = 54_507_958_502_660;
 
+impl Mark {
+    // The number of its word, of which the first is 1. Marks are numbered from 0.
+    fn word(self) -> u64
+        ensures { result ≡ self.number % words + 1 }
+    {
+        self.number % WORDS + 1
+    }
+}
+
 // What a letter stands for, 1 to 52, where the byte is one.
 fn letter_value(byte: u8) -> Option<u8>
     ensures { result ≡ (if is_letter byte then Some (letter_value byte) else None) }
@@ -203,8 +212,8 @@ impl Item for Mark {
 
     // From the last letters to the first.
     fn same(self, other: Mark) -> bool {
-        let mut mine = self.number % WORDS + 1;
-        let mut theirs = other.number % WORDS + 1;
+        let mut mine = self.word();
+        let mut theirs = other.word();
         while mine > 0 && theirs > 0 {
             let last = letter(((mine - 1) % 52 + 1) as u8);
             let their_last = letter(((theirs - 1) % 52 + 1) as u8);
@@ -226,9 +235,8 @@ impl Item for Mark {
         Some(Mark { number: number - 1 })
     }
 
-    // Words are numbered from 1, marks from 0.
     fn write(self, field: &mut [u8; 8]) {
-        write_word(self.number % WORDS + 1, field);
+        write_word(self.word(), field);
     }
 }
 

@@ -49,7 +49,7 @@ impl Line<'_> {
         }
     }
 
-    // The letter, or 0 where the field has no column.
+    // The letter. A cut line's field has its column; 0 is no letter.
     fn letter(self) -> u8
         ensures { result ≡ slice_index (seen self.entry.fields.letter).bytes 0 }
     {

@@ -56,6 +56,7 @@ pub enum Refusal {
 }
 
 impl Refusal {
+    // A cast asks for the enum itself, so each has its own.
     pub fn number(self) -> u32
         ensures { result ≡ number_of self }
     {
