@@ -17,7 +17,7 @@ use Rattle.runs.specs.declared.Answer.{Answer}
 use Rattle.runs.specs.declared.Answer.TheVariants as answer
 use Rattle.runs.specs.declared.Call.{Call}
 use Rattle.runs.specs.declared.Call.TheVariants as call
-use Rattle.runs.specs.declared.Cues.{Cues}
+use Rattle.runs.specs.declared.cues.Cues.{Cues}
 use Rattle.runs.specs.declared.Failure.{Failure}
 use Rattle.runs.specs.declared.Failure.TheVariants as failure
 use Rattle.runs.specs.Answers.{cues_of, OrderShown, CycleShown, OrderRight, ViewsRight}

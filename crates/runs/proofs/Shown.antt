@@ -1,5 +1,5 @@
 -- The answers about orders and views are right. Assumes nothing.
-use Rattle.std.proofs.Common.{◌≡◌, ℕ, ◌≤◌, Bool, true, false, cond, ltb, List, length, take, drop, Some, None, Ok, Option, option_map, sym, refl, ap, ◌∙◌, subst, arith}
+use Rattle.std.proofs.Common.{◌≡◌, ℕ, ◌≤◌, Bool, true, false, cond, ltb, List, length, take, drop, Some, None, Ok, Option, sym, refl, ap, ◌∙◌, subst, arith}
 use Rattle.std.proofs.lemmas.List.{take_at}
 use Rattle.std.proofs.lemmas.Bool.{cond-false, le-ltb, ltb-false}
 use Rattle.refusals.specs.declared.Refusal.{Refusal}
@@ -16,8 +16,7 @@ use Rattle.equivalence.specs.Laws.{Sameness}
 use Rattle.equivalence.proofs.SameViews.{view_is_same_lem}
 use Rattle.serial.specs.OrderAnswer.{order_refusal, OrderFound, CycleFound, OrderOrCycle, ShownView}
 use Rattle.views.specs.Answer.{views_refusal, answered, left}
-use Rattle.runs.specs.declared.Answer.TheVariants as answer
-use Rattle.runs.specs.Answers.{OrderShown, CycleShown, ViewsShown, NoneShown, ViewsRight}
+use Rattle.runs.specs.Answers.{OrderShown, CycleShown, ViewsShown, NoneShown}
 
 module _ {K : Type 0} (alike : K → K → Bool) (es : List (Entry K)) (list cells : List ℕ) (n : ℕ) where
   pub order_shown : Sameness alike → (f : Found) → OrderOrCycle alike es list cells f → ShownView alike es cells (Ok f) → f ≡ Order n → OrderShown alike es (take n cells)
@@ -70,7 +69,7 @@ found_none None None a = (refl, refl)
 found_none None (Some o) a = cc
 
 module _ {K : Type 0} (alike : K → K → Bool) (same : Sameness alike) (es : List (Entry K)) (room : ℕ) where
-  views_shown : (list cells : List ℕ) (n : ℕ) → Ok (Some n) ≡ answered (views_refusal es room) (view_order alike es) → cells ≡ left (views_refusal es room) (view_order alike es) list → ViewsShown alike es (take n cells)
+  pub views_shown : (list cells : List ℕ) (n : ℕ) → Ok (Some n) ≡ answered (views_refusal es room) (view_order alike es) → cells ≡ left (views_refusal es room) (view_order alike es) list → ViewsShown alike es (take n cells)
   views_shown list cells n is l =
       let found = found_views n list cells (views_refusal es room) (view_order alike es) is l in
       let least = first_is_least (committed es) (view_equivalent alike es) (take n cells) found.1 in
@@ -81,14 +80,10 @@ module _ {K : Type 0} (alike : K → K → Bool) (same : Sameness alike) (es : L
         first = λ q rq u. least.least q rq ((view_is_same_lem K alike same es q rq).1 u);
       }
 
-  none_shown : Ok None ≡ answered (views_refusal es room) (view_order alike es) → NoneShown alike es
+  pub none_shown : Ok None ≡ answered (views_refusal es room) (view_order alike es) → NoneShown alike es
   none_shown is =
       let found = found_none (views_refusal es room) (view_order alike es) is in
       record {
         few = taken_few es room found.0;
         none = λ q rq u. none_is_none (committed es) (view_equivalent alike es) found.1 q rq ((view_is_same_lem K alike same es q rq).1 u);
       }
-
-  pub views_right : (list cells : List ℕ) (a : Option ℕ) → Ok a ≡ answered (views_refusal es room) (view_order alike es) → cells ≡ left (views_refusal es room) (view_order alike es) list → ViewsRight alike es (Ok (answer.Views (option_map (λ n. record { list = cells; count = n }) a)))
-  views_right list cells (Some n) is l = views_shown list cells n is l
-  views_right list cells None is l = none_shown is

@@ -7,7 +7,7 @@ use Rattle.history.specs.Order.{committed_cues, keeps, ConflictCycle}
 use Rattle.history.specs.Views.{committed_list, serial_list, SameView}
 use Rattle.runs.specs.declared.Answer.{Answer}
 use Rattle.runs.specs.declared.Answer.TheVariants as answer
-use Rattle.runs.specs.declared.Cues.{Cues}
+use Rattle.runs.specs.declared.cues.Cues.{Cues}
 use Rattle.runs.specs.declared.Failure.{Failure}
 use Rattle.runs.specs.declared.Failure.TheVariants as failure
 

@@ -4,13 +4,15 @@
 ghost use Rattle.std.specs.Prelude.{◌≡◌, ◌<◌, min, length};
 ghost use Rattle.book.specs.Entering.{room, accepted, Lays};
 ghost use Rattle.runs.specs.declared.Failure.TheVariants.{Refused, Fault};
-ghost use Rattle.runs.specs.Answers.{cues_of, OrderRight, ViewsRight};
+ghost use Rattle.runs.specs.Answers.{OrderRight, ViewsRight};
 ghost use Rattle.runs.specs.Holding.{so_far, Keeps};
 ghost use Rattle.runs.specs.Runs.{Right, after, wanted, Ran};
 
+mod cues;
 mod held;
 
 use book::{Book, ReadFault, Step, Ticket};
+pub use cues::Cues;
 use graphs::Found;
 use held::Held;
 use history::{Ending, Entry};
@@ -32,21 +34,6 @@ pub enum Call<'a, K> {
     Order,
     Views,
     Why(u32, u32),
-}
-
-// Cues in their order: the first `count` cells. The memory is fixed, since an answer owns its cues and there is no heap.
-#[derive(Clone, Copy)]
-pub struct Cues {
-    list: [u32; 64],
-    count: usize,
-}
-
-impl Cues {
-    pub fn as_slice(&self) -> &[u32]
-        ensures { result.now ≡ cues_of self.now }
-    {
-        &self.list[..self.count.min(64)]
-    }
 }
 
 // The answer to a call.
@@ -129,8 +116,10 @@ fn views<K: Item>(book: &Book<'_, K>) -> Result<Answer, Failure>
     ensures { ViewsRight K.Item.alike (accepted book.now) result }
 {
     let mut list = [0u32; 64];
-    let order = book.views(&mut list)?;
-    Ok(Answer::Views(order.map(|count| Cues { list, count })))
+    Ok(Answer::Views(match book.views(&mut list)? {
+        Some(count) => Some(Cues { list, count }),
+        None => None,
+    }))
 }
 
 // Performs one call.
