@@ -1,10 +1,11 @@
-// Items as single words, as scripts and sample books say them.
+// What programs read and print alike: items as single words, as scripts and sample books say them, and rows of numbers.
 #![tactic(auto)]
 
 ghost use Rattle.std.specs.Prelude.{◌≡◌};
 ghost use Rattle.words.specs.Words.{item_in};
 
 use items::Item;
+use std::fmt;
 
 // The item that a word says: the kind reads it as it stands in a sheet, right-justified in eight columns.
 pub fn item_of<K: Item>(word: &str) -> Option<K>
@@ -14,4 +15,17 @@ pub fn item_of<K: Item>(word: &str) -> Option<K>
     let first = field.len().checked_sub(word.len())?;
     field[first..].copy_from_slice(word.as_bytes());
     K::read(&field)
+}
+
+// Numbers with a blank before each.
+#[derive(Clone, Copy)]
+pub struct Spaced<'a>(pub &'a [u32]);
+
+impl fmt::Display for Spaced<'_> {
+    fn fmt<W: fmt::Write>(&self, f: &mut fmt::Formatter<W>) -> fmt::Result {
+        for number in self.0 {
+            write!(f, " {number}")?;
+        }
+        Ok(())
+    }
 }
