@@ -10,6 +10,7 @@ use history::{Act, Ending, Entry};
 use items::Item;
 use runs::{Answer, Call, Cues, Failure, perform};
 use std::{array, fmt, io};
+use words::Spaced;
 
 // Items that differ in their number and are the same for a book.
 #[derive(Clone, Copy)]
@@ -47,7 +48,7 @@ impl Item for Anything {
     }
 }
 
-// How many calls a run has here.
+// How many calls a run has here at most.
 const CALLS: usize = 12;
 
 // The second cue reads what the first wrote, though by another number.
@@ -89,11 +90,7 @@ struct Row<'a>(&'a str, &'a Cues);
 
 impl fmt::Display for Row<'_> {
     fn fmt<W: fmt::Write>(&self, f: &mut fmt::Formatter<W>) -> fmt::Result {
-        f.write_str(self.0)?;
-        for cue in self.1.as_slice() {
-            write!(f, " {cue}")?;
-        }
-        Ok(())
+        write!(f, "{}{}", self.0, Spaced(self.1.as_slice()))
     }
 }
 

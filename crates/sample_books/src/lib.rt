@@ -10,6 +10,7 @@ use history::Entry;
 use items::Item;
 use notation::entry_of;
 use std::io;
+use words::Spaced;
 
 // A book in the textbook's notation, as w1(5) for cue 1 writing item 5, with what it shows.
 #[derive(Clone, Copy)]
@@ -23,14 +24,11 @@ pub const PLACES: usize = 20;
 
 // Prints cues after a word for what they are.
 pub fn print_cues(rt: &HostRuntime, word: &str, cues: &[u32]) -> io::Result<()> {
-    print!(rt; "  {word}")?;
-    for cue in cues {
-        print!(rt; " {cue}")?;
-    }
-    println!(rt; "")
+    println!(rt; "  {word}{}", Spaced(cues))
 }
 
-// Enters what the words say, and prints the words of those entries that are refused.
+// Enters what the words say, and prints the words of those entries that are refused. A word that says no entry is skipped, and
+// nothing is printed of it.
 fn enter<K: Item>(rt: &HostRuntime, book: &mut Book<'_, K>, words: &str) -> io::Result<()> {
     for word in words.split_whitespace() {
         let Some(entry) = entry_of(word) else {

@@ -4,6 +4,7 @@
 use graphs::{Found, Wait, wait_order};
 use refusals::Refusal;
 use std::io;
+use words::Spaced;
 
 // The byte that a strip is lent with.
 const LENT: u8 = 9;
@@ -14,13 +15,6 @@ fn print_found(rt: &HostRuntime, found: Result<Found, Refusal>) -> io::Result<()
         Ok(Found::Cycle(count)) => println!(rt; "cycle of {count}"),
         Err(refusal) => println!(rt; "refused, {}", refusal.number()),
     }
-}
-
-fn print_cells(rt: &HostRuntime, list: &[u32]) -> io::Result<()> {
-    for cell in list.iter().take(5) {
-        print!(rt; " {cell}")?;
-    }
-    Ok(())
 }
 
 // How many bytes are as they were lent.
@@ -42,8 +36,8 @@ fn show(
     let found = wait_order(rows, list.as_mut_slice(), strip.as_mut_slice());
     print!(rt; "{name}, {cells} cells, {bytes} bytes: ")?;
     print_found(rt, found)?;
-    print_cells(rt, list.as_slice())?;
-    println!(rt; "; {} bytes as they were", kept(strip.as_slice()))?;
+    let first = &list.as_slice()[..cells.min(5)];
+    println!(rt; "{}; {} bytes as they were", Spaced(first), kept(strip.as_slice()))?;
     Ok(())
 }
 

@@ -3,6 +3,7 @@ use crate::scripts::Lines;
 use history::Ending;
 use runs::{Answer, Failure};
 use std::fmt;
+use words::Spaced;
 
 // Cues with blanks between. An order of no cues would leave the line empty.
 #[derive(Clone, Copy)]
@@ -13,11 +14,7 @@ impl fmt::Display for Row<'_> {
         let Some((first, rest)) = self.0.split_first() else {
             return f.write_str("no cue is committed");
         };
-        write!(f, "{first}")?;
-        for cue in rest {
-            write!(f, " {cue}")?;
-        }
-        Ok(())
+        write!(f, "{first}{}", Spaced(rest))
     }
 }
 

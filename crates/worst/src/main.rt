@@ -7,6 +7,7 @@ use history::{Act, Entry};
 use items::Axis;
 use refusals::Refusal;
 use std::{env, fmt, io};
+use words::Spaced;
 
 const PLACES: usize = 4096;
 
@@ -113,10 +114,7 @@ fn print_answer(
         Ok(None) => print!(rt; "none,")?,
         Err(refusal) => print!(rt; "refused {},", refusal.number())?,
     }
-    for cell in list {
-        print!(rt; " {cell}")?;
-    }
-    println!(rt; "")
+    println!(rt; "{}", Spaced(list))
 }
 
 // Asks views of one book with lists of several lengths, whose cells are 777 before.
