@@ -54,15 +54,39 @@ const SECOND: Axis = Axis { number: 2 };
 
 // Cues 1 and 5 write both of two axes, one after the other and the other way round, cue 7 reads each, and cue 8 writes both last:
 // of 1 and 5 neither may stand between the other and 7.
-const SOURCES: [(u32, Act<Axis>); 8] = [
-    (1, Act::Write(FIRST)),
-    (5, Act::Write(FIRST)),
-    (7, Act::Read(FIRST)),
-    (5, Act::Write(SECOND)),
-    (1, Act::Write(SECOND)),
-    (7, Act::Read(SECOND)),
-    (8, Act::Write(FIRST)),
-    (8, Act::Write(SECOND)),
+const SOURCES: [Entry<Axis>; 8] = [
+    Entry {
+        cue: 1,
+        act: Act::Write(FIRST),
+    },
+    Entry {
+        cue: 5,
+        act: Act::Write(FIRST),
+    },
+    Entry {
+        cue: 7,
+        act: Act::Read(FIRST),
+    },
+    Entry {
+        cue: 5,
+        act: Act::Write(SECOND),
+    },
+    Entry {
+        cue: 1,
+        act: Act::Write(SECOND),
+    },
+    Entry {
+        cue: 7,
+        act: Act::Read(SECOND),
+    },
+    Entry {
+        cue: 8,
+        act: Act::Write(FIRST),
+    },
+    Entry {
+        cue: 8,
+        act: Act::Write(SECOND),
+    },
 ];
 
 // The axis of a number, of which as many differ as there are.
@@ -73,8 +97,8 @@ fn axis(n: usize) -> Axis {
 }
 
 impl Kind {
-    // Which cue makes entry `i`, and what it does. A full book has more of them than it has room for.
-    fn entry(self, i: usize) -> Option<(u32, Act<Axis>)> {
+    // Entry `i`. A full book has more of them than it has room for.
+    fn entry(self, i: usize) -> Option<Entry<Axis>> {
         let (turn, act) = match self {
             Kind::WritesApart => (i, Act::Write(axis(i))),
             Kind::WritesTogether => (i, Act::Write(axis(7))),
@@ -86,21 +110,34 @@ impl Kind {
             Kind::WrittenTwice => (i, Act::Write(axis(i / 3))),
             Kind::TwoSources => return SOURCES.get(i).copied(),
         };
-        Some(((turn % 8) as u32 + 1, act))
+        Some(Entry {
+            cue: (turn % 8) as u32 + 1,
+            act,
+        })
     }
 }
 
-fn enter(book: &mut Book<'_, Axis>, cue: u32, act: Act<Axis>) {
-    let _ = book.enter(Entry { cue, act });
+fn enter(book: &mut Book<'_, Axis>, entry: Entry<Axis>) {
+    let _ = book.enter(entry);
+}
+
+fn commit(book: &mut Book<'_, Axis>, cue: u32) {
+    enter(
+        book,
+        Entry {
+            cue,
+            act: Act::Commit,
+        },
+    );
 }
 
 // A book of a kind, with eight committed cues.
 fn fill(book: &mut Book<'_, Axis>, kind: Kind) {
-    for (cue, act) in (0..BODY).map_while(|i| kind.entry(i)) {
-        enter(book, cue, act);
+    for entry in (0..BODY).map_while(|i| kind.entry(i)) {
+        enter(book, entry);
     }
     for cue in 1..=8u32 {
-        enter(book, cue, Act::Commit);
+        commit(book, cue);
     }
 }
 
@@ -122,7 +159,7 @@ fn print_lists(rt: &HostRuntime, committed: u32) -> anyhow::Result<()> {
     let mut memory = [Entry::FREE; 64];
     let mut book = Book::new(&mut memory);
     for cue in 1..=committed {
-        enter(&mut book, cue, Act::Commit);
+        commit(&mut book, cue);
     }
     for cells in [0usize, 7, 8, 10] {
         let mut list = vec![in rt.alloc(); 777u32; cells]?;
