@@ -13,7 +13,8 @@ use book::Book;
 use graphs::Found;
 use history::Entry;
 use items::{Axis, Item};
-use pages::{LONGEST, Page};
+pub use pages::LONGEST;
+use pages::Page;
 use refusals::Refusal;
 
 // How many entries the book holds.
