@@ -1,4 +1,4 @@
-// The cue checker on an input with no byte.
+// The same program as cuecheck, on an input with no byte, since the gate runs a program on one input.
 #![tactic(auto)]
 
 use std::io;

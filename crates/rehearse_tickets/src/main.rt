@@ -1,4 +1,4 @@
-// The rehearsal of a trap, a lift and a blackout, with tickets and marks.
+// The same program as rehearse, on trap, lift and blackout with tickets and marks, since the gate runs a program on one input.
 #![tactic(auto)]
 
 fn main(rt: HostRuntime) -> anyhow::Result<()> {

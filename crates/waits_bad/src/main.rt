@@ -1,4 +1,4 @@
-// The wait list program on a row that is out of range.
+// The same program as waits, on a row that is out of range, since the gate runs a program on one input.
 #![tactic(auto)]
 
 fn main(rt: HostRuntime) -> anyhow::Result<()> {
