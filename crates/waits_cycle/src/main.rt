@@ -1,4 +1,4 @@
-// The wait list program on winches that wait for one another.
+// The same program as waits, on winches that wait for one another, since the gate runs a program on one input.
 #![tactic(auto)]
 
 fn main(rt: HostRuntime) -> anyhow::Result<()> {
