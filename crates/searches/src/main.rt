@@ -37,7 +37,11 @@ fn show(
     print!(rt; "{name}, {cells} cells, {bytes} bytes: ")?;
     print_found(rt, found)?;
     let first = &list.as_slice()[..cells.min(5)];
-    println!(rt; "{}; {} bytes as they were", Spaced(first), kept(strip.as_slice()))?;
+    println!(rt;
+        "{}; {} bytes as they were",
+        Spaced(first),
+        kept(strip.as_slice())
+    )?;
     Ok(())
 }
 
