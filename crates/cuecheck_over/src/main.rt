@@ -1,4 +1,4 @@
-// The cue checker on a sheet of 2,049 lines and more.
+// The same program as cuecheck, on a sheet of 2,049 lines and more, since the gate runs a program on one input.
 #![tactic(auto)]
 
 use std::io;
