@@ -28,7 +28,7 @@ seek 2 'cue: 0,$|^const FREE|fn free'
 seek 3 '^ *(for|while|loop)\b'
 # 4: impls of conversion, comparison and printing; functions that do one of these; comparisons of a byte or a number with two bounds
 seek 4 'impl.* (From|TryFrom|fmt::Display|PartialEq|PartialOrd|Clone)\b.* for '
-seek 4 "fn (print_[a-z]+|copy_[a-z]+|number|act|act_of|words|[a-z]+_words)\b"
+seek 4 "fn (print_[a-z_]+|copy_[a-z]+|number|act|act_of|words|[a-z]+_words)\b"
 seek 4 "b'.' <=|<= b'|<= 64\$|<= given|\*b < b'|== other\.number"
 # 5: what functions require, and what calls leave of a book
 seek 5 '^ *requires'

@@ -16,7 +16,8 @@ pub use tickets::{Receipt, Step, Ticket};
 const PLACES: usize = 4096;
 
 // A book over the caller's memory, of which it uses the first 4,096 places, or all where there are fewer. Contracts see its fields,
-// and not one value in their place, since the memory past the entries is the lender's to know.
+// and not one value in their place, since the memory past the entries is the lender's to know. A length stands beside the memory, since there is no
+// heap and the memory is the caller's.
 #[derive(Drop)]
 pub struct Book<'a, K> {
     memory: &'a mut [Entry<K>],

@@ -79,7 +79,8 @@ impl<'a, K: Copy> Book<'a, K> {
         self.enter(ticket.entry_of(Act::from(step)))
     }
 
-    // Ends the ticket's cue and gives a receipt for the ticket, or gives the ticket back with the refusal.
+    // Ends the ticket's cue and gives a receipt for the ticket, or gives the ticket back with the refusal. By a match, since a
+    // `map` would move the ticket into its closure.
     pub fn end(&mut self, ticket: Ticket, ending: Ending) -> Result<Receipt, (Ticket, Refusal)>
         ensures answer { result ≡ closed ticket ending (entered (room self.old) (accepted self.old) ticket.cue) }
         ensures grows { accepted self.new ≡ grown result (under ticket (act_of ending)) (accepted self.old) }

@@ -7,7 +7,7 @@ ghost use Rattle.lists.specs.Lists.{every};
 ghost use Rattle.columns.specs.Symbols.{is};
 ghost use Rattle.columns.specs.Columns.{after_blanks, digits_from, number, up_to, number_in};
 
-// The two tests of a byte that fields and their definitions share.
+// The two tests of a byte that fields and their definitions share: an enum and no closure, since the definitions name them too.
 #[derive(Clone, Copy)]
 pub enum Symbol {
     Digit,

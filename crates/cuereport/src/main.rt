@@ -6,7 +6,8 @@ use std::io;
 use std::io::{Read, Write};
 
 // How much of the input is read: a line more than the book of the report holds.
-// The crate desk has the same number: cuecheck and cuereport share no crate that reads a sheet from standard input.
+// The crate desk has the same number: cuecheck and cuereport share no crate that reads a sheet from standard input,
+// and one for a line would be no plainer.
 const SHEET: u64 = 32_784;
 
 fn main(rt: HostRuntime) -> io::Result<()> {

@@ -11,7 +11,7 @@ use std::io;
 pub use waiting::run_waits;
 
 // Prints the order or the cycle that a search left at the front of the list, each number right-justified in five columns, or the
-// number of its refusal.
+// number of its refusal. By a function, since a `Result` of others takes no `Display` of ours.
 fn print_found(
     rt: &HostRuntime,
     found: Result<Found, Refusal>,

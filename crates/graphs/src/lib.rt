@@ -27,7 +27,7 @@ pub trait Graph {
         ensures { result ≡ edges self.now from to };
 }
 
-// What a search found, by how many cells of the list that the caller lent hold it.
+// What a search found, by how many cells of the list hold it: a length, since the list stays the caller's.
 #[derive(Clone, Copy)]
 pub enum Found {
     Order(usize),
@@ -130,7 +130,8 @@ impl<G: Graph> Marks<'_, G> {
         placed
     }
 
-    // Walks back from `from` along waiting numbers until one comes again, and gives the cycle. Marks fall from 128, each the next.
+    // Walks back from `from` along waiting numbers until one comes again, and gives the cycle. Marks fall from
+    // 128: the count is the mark.
     fn walk(&mut self, from: u32) -> Row
         requires in_bounds { (1 ≤ from) × (from ≤ 64) }
         requires from_value { waits (G.numbers self.old.graph.now) self.old.strip.now from ≡ true }
@@ -155,7 +156,7 @@ impl<G: Graph> Marks<'_, G> {
         }
     }
 
-    // Writes the numbers of a row.
+    // Writes the numbers of a row. By number, since its mark says which cell it fills.
     fn write(&self, list: &mut [u32], row: Row)
         requires { (row.size ≤ length list.old) × (row.base + row.size ≤ 128) }
         ensures row { (xs : List ℕ) → length xs ≡ row.size → Marked row.base xs self.now.strip.now → take row.size list.new ≡ xs }

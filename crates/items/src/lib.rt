@@ -156,7 +156,7 @@ fn same_letter(a: u8, b: u8) -> bool
     a.eq_ignore_ascii_case(&b)
 }
 
-// The number of a word, where each byte is a letter.
+// The number of a word, where each byte is a letter. A loop with `?`: a fold that can fail is no plainer.
 fn word_number(word: &[u8]) -> Option<u64>
     requires { length word.now ≤ 8 }
     ensures { result ≡ (if every is_letter word.now then Some (word_from 0 word.now) else None) }

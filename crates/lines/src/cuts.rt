@@ -35,7 +35,7 @@ impl<'a> Field<'a> {
     }
 }
 
-// The fields of a line, and whether the columns beside its letter are blank.
+// The fields of a line, and whether the columns beside its letter are blank, on which no field hangs.
 #[derive(Clone, Copy)]
 pub struct Fields<'a> {
     pub cue: Field<'a>,

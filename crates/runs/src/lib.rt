@@ -112,6 +112,7 @@ fn order<K: Item>(book: &Book<'_, K>) -> Result<Answer, Failure>
     })
 }
 
+// By a match, since the closure of a `map` would not know how many cells an order has.
 fn views<K: Item>(book: &Book<'_, K>) -> Result<Answer, Failure>
     ensures { ViewsRight K.Item.alike (accepted book.now) result }
 {

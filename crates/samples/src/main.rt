@@ -8,7 +8,8 @@ use items::{Axis, Item, Mark};
 use sample_books::{AXES, CRASH, MARKS, PLACES, print_cues, print_samples};
 use std::io;
 
-// What put one cue before another.
+// What put one cue before another. This and the next by functions, since a `Result` of others takes no `Display` of ours without a
+// type around it.
 fn print_why<K: Item>(rt: &HostRuntime, book: &Book<'_, K>, i: u32, j: u32) -> io::Result<()> {
     print!(rt; "  why {i} {j}: ")?;
     match book.why(i, j) {

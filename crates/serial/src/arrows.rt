@@ -6,7 +6,7 @@ use graphs::Graph;
 use history::{Entry, committed_cues, conflicts, is_cue, is_marked};
 use items::Item;
 
-// Whether each cue is committed, and to which cues each has an edge.
+// Whether each cue is committed, and to which cues each has an edge: apart, as marks and rows are asked for apart.
 #[derive(Clone, Copy)]
 pub struct ConflictGraph {
     cues: [bool; 64],

@@ -29,7 +29,8 @@ fn are_two_cues(i: u32, j: u32) -> bool
     is_cue(i) && is_cue(j) && i != j
 }
 
-// The first entry of cue `i` with which a later one of cue `j` conflicts, and the first such one.
+// The first entry of cue `i` with which a later one of cue `j` conflicts, and the first such one. Two loops that are left with the
+// pair: a chain in the closure of another is no plainer.
 fn first_pair<K: Item>(entries: &[Entry<K>], i: u32, j: u32) -> Option<Pair>
     ensures { result ≡ why_of K.Item.alike entries.now i j }
 {

@@ -49,7 +49,7 @@ const VIEWED: [Sample<'static>; 9] = [
     },
 ];
 
-// The first view-equivalent order, or that there is none.
+// The first view-equivalent order, or that there is none. By a function, since a `Result` of others takes no `Display` of ours.
 fn print_views<K: Item>(rt: &HostRuntime, book: &Book<'_, K>) -> io::Result<()> {
     let mut cues = [0u32; 8];
     match book.views(&mut cues) {

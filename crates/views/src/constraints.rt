@@ -10,8 +10,8 @@ use crate::members::Members;
 use history::{Act, Entry, is_marked, writes_item};
 use items::Item;
 
-// The constraints between the members, told by their ranks. The tables are flat, as the checker does not cover the literal of a struct
-// with a field of three arrays in each other, which `apart` would be.
+// The constraints between the members, told by their ranks. Both tables are flat, so that one number finds a
+// cell of either: of `apart` the checker does not cover the nested form, three arrays in each other.
 #[derive(Clone, Copy)]
 pub struct Constraints {
     pub members: Members,
@@ -67,7 +67,8 @@ fn is_third(source: u32, reader: u32, earlier: &[bool; 64], later: &[bool; 64], 
 }
 
 impl Constraints {
-    // Whether `a` must come before `b`. Of two cues; the next is of three, with a table of its own.
+    // Whether `a` must come before `b`. The functions on two cues and on three stand apart: one for both would take a list of cues and
+    // a table, and ask how many.
     pub fn is_ahead(&self, a: u32, b: u32) -> bool
         ensures { result ≡ ahead_in self.now a b }
     {
@@ -101,7 +102,7 @@ impl Constraints {
         }
     }
 
-    // Notes that the reader of the initial state comes before each other writer.
+    // Notes that the reader of the initial state comes before each other writer. A loop, since each turn changes the tables.
     fn put_first(&mut self, reader: u32, writers: &[bool; 64])
         ensures { PutsFirst self.old self.new reader writers.now }
     {
@@ -112,7 +113,7 @@ impl Constraints {
         }
     }
 
-    // Notes that no other writer stands between the cue of the source and the reader.
+    // Notes that no other writer stands between the cue of the source and the reader, in a loop as well.
     fn put_between(&mut self, source: u32, reader: u32, earlier: &[bool; 64], later: &[bool; 64])
         ensures { PutsBetween self.old self.new source reader earlier.now later.now }
     {

@@ -64,7 +64,8 @@ impl<'a> Placing<'a> {
         !self.is_led(x) && !self.is_barred(x)
     }
 
-    // Fills the list with the first order of the cues left that keeps the constraints, if there is one.
+    // Fills the list with the first order of the cues left that keeps the constraints, if there is one. A loop, since each try writes
+    // the rest of the list.
     pub fn extend(&self, list: &mut [u32]) -> bool
         requires { length (left_of self.now) ≡ length list.old }
         ensures found { result ≡ is_some (rest_of self.now) }

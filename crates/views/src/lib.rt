@@ -16,7 +16,8 @@ mod extending;
 mod members;
 
 // How long the first view-equivalent order of the committed cues is, which stands at the front of `list` then, or none. What such an
-// order must keep is derived from the book once, and orders are extended cue by cue under it.
+// order must keep is derived from the book once, and orders are extended cue by cue under it. A length and no slice, since the list stays the
+// caller's.
 pub fn views_of<K: Item>(entries: &[Entry<K>], list: &mut [u32]) -> Result<Option<usize>, Refusal>
     ensures answer { result ≡ views_answer K.Item.alike entries.now list.old }
     ensures list { list.new ≡ views_list K.Item.alike entries.now list.old }

@@ -60,7 +60,8 @@ impl Members {
     }
 }
 
-// The committed cues, or none where they are too many.
+// The committed cues, or none where they are too many. Counted by hand, since the numbers go into an array: there is no heap to
+// collect into.
 pub fn members_of<K>(entries: &[Entry<K>]) -> Option<Members>
     ensures some { IfSome result (λ m. (n : ℕ) → marked m.cues n ≡ committed entries.now n) }
     ensures none { IfNone result (8 < length (committed_cues entries.now)) }

@@ -141,6 +141,7 @@ fn fill(book: &mut Book<'_, Axis>, kind: Kind) {
     }
 }
 
+// By a function, since a `Result` of others takes no `Display` of ours.
 fn print_answer(
     rt: &HostRuntime,
     answer: Result<Option<usize>, Refusal>,
