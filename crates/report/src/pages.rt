@@ -43,7 +43,7 @@ impl Page {
         &self.bytes[..self.len]
     }
 
-    // Writes bytes after the text.
+    // Writes bytes after the text. Their room stands in each clause, since a page cannot know which lines are still to come.
     fn put(&mut self, bytes: &[u8])
         requires { length self.old + length bytes.now ≤ 388 }
         ensures { self.new ≡ self.old ++ bytes.now }
