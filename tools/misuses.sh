@@ -1,16 +1,29 @@
 #!/bin/sh
-# Shows that the compiler refuses each misuse of a ticket in tools/misuses/ because the ticket was moved by then.
-# A misuse is a change of the program crates/tickets: a line 'old: TEXT' that stands once in it, and 'new: TEXT' in its place.
+# Shows that the compiler refuses each misuse of a ticket in tools/misuses/ because the ticket was moved by then, and takes the program
+# without a misuse. A misuse is a change of the program crates/tickets: a line 'old: TEXT' that stands once in it, and 'new: TEXT' in its
+# place. Nothing is proved here: `rt try` compiles and runs.
 set -eu
 cd "$(dirname "$0")/.."
 
 dir=$(mktemp -d)
 trap 'rm -rf "$dir"' EXIT
-git archive HEAD crates crates.txt | tar -x -C "$dir"
-cp "$dir/crates/tickets/src/main.rt" "$dir/main.rt"
+tar -c --exclude=out crates crates.txt | tar -x -C "$dir"
+program=$dir/crates/tickets/src/main.rt
+cp "$program" "$dir/main.rt"
+
+# said: compiles and runs the program as it stands, and keeps what is said of it
+said() {
+    (cd "$dir/crates/tickets" && rt try) >"$dir/said" 2>&1
+}
+
+if ! said; then
+    echo "crates/tickets is not taken without a misuse:"
+    tail -5 "$dir/said"
+    exit 1
+fi
 status=0
 for misuse in tools/misuses/*.edit; do
-    python3 - "$misuse" "$dir/main.rt" "$dir/crates/tickets/src/main.rt" <<'PY'
+    python3 - "$misuse" "$dir/main.rt" "$program" <<'PY'
 import sys
 edit, program, to = sys.argv[1:]
 text = open(program, encoding="utf-8").read()
@@ -25,8 +38,7 @@ for o, n in zip(old, new):
     text = text.replace(o, n)
 open(to, "w", encoding="utf-8").write(text)
 PY
-    (cd "$dir/crates/tickets" && rt check) >"$dir/said" 2>&1 || true
-    if grep -q 'borrow-e0382' "$dir/said"; then
+    if ! said && grep -q 'borrow-e0382' "$dir/said"; then
         echo "refused  $misuse: $(grep -m1 'borrow-e0382' "$dir/said")"
     else
         echo "NOT REFUSED  $misuse"
