@@ -1,7 +1,7 @@
 #!/bin/sh
-# Tests the C call against cuereport, and the console. Variables, paths from the top of the repository:
+# Tests the C call against cuecheck, and the console. Variables, paths from the top of the repository:
 #   LIB        the static library; without it the library is built
-#   CUEREPORT  the program that is compared with; without it that is built too
+#   CUECHECK  the program that is compared with; without it that is built too
 #   SHEETS     the folder of sheets (sheets)
 #   CC, CFLAGS, LDLIBS
 set -u
@@ -11,9 +11,9 @@ if [ -z "${LIB:-}" ]; then
     tools/library.sh || exit 2
     LIB=target/staticlib/libreport.a
 fi
-if [ -z "${CUEREPORT:-}" ]; then
-    (cd crates/cuereport && rt run </dev/null >/dev/null) || exit 2
-    CUEREPORT=crates/cuereport/out/cuereport
+if [ -z "${CUECHECK:-}" ]; then
+    (cd crates/cuecheck && rt run </dev/null >/dev/null) || exit 2
+    CUECHECK=crates/cuecheck/out/cuecheck
 fi
 SHEETS=${SHEETS:-sheets}
 CC=${CC:-cc}
@@ -40,14 +40,14 @@ fail() {
     exit 1
 }
 
-# same NAME FILE [STATUS]: the call, the console and cuereport answer the same; the console's exit
+# same NAME FILE [STATUS]: the call, the console and cuecheck answer the same; the console's exit
 # status is 0, or STATUS.
 same() {
-    "$CUEREPORT" <"$2" >"$dir/expected" || fail "$1" "cuereport failed"
+    "$CUECHECK" <"$2" >"$dir/expected" || fail "$1" "cuecheck failed"
     "$dir/test" answer "$2" >"$dir/got" || fail "$1" "the call broke its contract"
     cmp -s "$dir/expected" "$dir/got" || {
         cat "$dir/expected" "$dir/got"
-        fail "$1" "cuereport printed the first, the call answered the second"
+        fail "$1" "cuecheck printed the first, the call answered the second"
     }
     "$dir/console" "$2" >"$dir/printed" 2>"$dir/said"
     status=$?

@@ -1,7 +1,7 @@
 // A sheet of waits: a row to a line, with the winch and the winch that it waits for.
-use crate::print_found;
-use graphs::{Wait, wait_order};
+use graphs::{Found, Wait, wait_order};
 use refusals::Refusal;
+use std::io;
 
 // The row that a line says: two numbers with blanks between.
 fn row_of(line: &str) -> Option<Wait> {
@@ -20,6 +20,25 @@ fn is_out_of_range(row: Wait) -> bool {
         wait_order(&[row], &mut [], &mut []),
         Err(Refusal::NoSuchWinch)
     )
+}
+
+// Prints the order or the cycle that a search left at the front of the list, each number right-justified in five columns, or the
+// number of its refusal. By a function, since a `Result` of others takes no `Display` of ours.
+fn print_found(
+    rt: &HostRuntime,
+    found: Result<Found, Refusal>,
+    list: &[u32; 64],
+) -> io::Result<()> {
+    let (word, count) = match found {
+        Ok(Found::Order(count)) => ("order", count),
+        Ok(Found::Cycle(count)) => ("cycle", count),
+        Err(refusal) => return println!(rt; "refused{:>5}", refusal.number()),
+    };
+    print!(rt; "{word}")?;
+    for cell in list.iter().take(count) {
+        print!(rt; "{cell:>5}")?;
+    }
+    println!(rt; "")
 }
 
 // Reads rows of waits, and prints an order in which the winches can move, or a cycle of winches that wait for one another; or

@@ -1,8 +1,8 @@
-// The books that several programs ask questions of.
+// The books.
 use crate::Sample;
 
 // Books of axes.
-pub const AXES: [Sample<'static>; 32] = [
+pub const AXES: [Sample<'static>; 42] = [
     Sample {
         shows: "empty",
         book: "",
@@ -134,13 +134,49 @@ pub const AXES: [Sample<'static>; 32] = [
         shows: "the smallest that can go first goes first",
         book: "r3(1) w1(1) r4(2) w2(2) c1 c2 c3 c4",
     },
+    // Histories of lectures on view serializability, with their items numbered.
+    Sample {
+        shows: "blind writes after a read, the last of a third cue",
+        book: "r3(1) w4(1) w3(1) w5(1) c3 c4 c5",
+    },
+    Sample {
+        shows: "a polygraph with one order",
+        book: "r2(2) w2(1) r1(1) r3(1) w1(2) w2(2) w3(2) c1 c2 c3",
+    },
+    Sample {
+        shows: "a polygraph of four cues",
+        book: "r2(1) r1(1) w1(3) r3(3) w1(2) r4(2) w3(1) r4(3) w2(4) r2(2) w4(1) w4(2) c1 c2 c3 c4",
+    },
+    Sample {
+        shows: "transfers that the sums alone let change places",
+        book: "r1(1) w1(1) r5(2) w5(2) r1(2) w1(2) r5(1) w5(1) c1 c5",
+    },
+    // What views can take for another answer.
+    Sample {
+        shows: "a write of the reader's own hides the source",
+        book: "w1(3) w2(3) w1(3) r2(3) c1 c2",
+    },
+    Sample {
+        shows: "a reader of the initial state comes first",
+        book: "r2(3) w1(3) c1 c2",
+    },
+    Sample {
+        shows: "none stands between a source and its reader",
+        book: "w1(3) r3(3) w2(3) w4(3) c1 c2 c3 c4",
+    },
+    Sample {
+        shows: "eight committed cues",
+        book: "c8 c7 c6 c5 c4 c3 c2 w1(1) c1",
+    },
+    Sample {
+        shows: "nine committed cues",
+        book: "c9 c8 c7 c6 c5 c4 c3 c2 c1",
+    },
+    Sample {
+        shows: "a crash before the first commits",
+        book: "r1(1) w1(1) r1(2) r2(1) w1(2) r2(2) c2 r1(3) w1(3)",
+    },
 ];
-
-// A book of axes that ends before its first cue commits.
-pub const CRASH: [Sample<'static>; 1] = [Sample {
-    shows: "a crash before the first commits",
-    book: "r1(1) w1(1) r1(2) r2(1) w1(2) r2(2) c2 r1(3) w1(3)",
-}];
 
 // Books of marks.
 pub const MARKS: [Sample<'static>; 2] = [
