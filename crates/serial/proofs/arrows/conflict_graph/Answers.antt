@@ -1,5 +1,8 @@
-use Rattle.std.proofs.Common.{◌≡◌, ◌+◌, ◌-◌, [], length, get_or, drop, refl, ap, ◌∙◌, subst, arith}
+use Rattle.std.proofs.Common.{◌≡◌, ◌+◌, ◌-◌, Bool, ◌&&◌, [], length, get_or, drop, refl, ap, ◌∙◌, subst, arith}
 use Rattle.std.proofs.lemmas.List.{drop_all, length-set, take_rest}
+use Rattle.history.specs.Entries.{committed}
+use Rattle.history.specs.Marked.{marked}
+use Rattle.history.specs.Order.{arrow}
 use Rattle.serial.specs.Drawn.{Adds}
 use Rattle.serial.proofs.Drawing.{Drew, drew_none, drew_more, drew_past, drew_all}
 use Rattle.serial.proofs.arrows.conflict_graph.Goals as goal
@@ -40,5 +43,8 @@ returns g c =
     let es = c.args.entries.now in
     record {
       numbers = c.committed_cues-cues.ensures;
-      edges = λ i j ci cj. drew_all alike cues es c.loop-p.p c.loop-p.edges (drop_all c.loop-p.p es (omega arith)) c.loop-p.invariant.1 i j (c.committed_cues-cues.ensures i ∙ ci) (c.committed_cues-cues.ensures j ∙ cj);
+      edges = λ i j.
+          drew_all alike cues es c.loop-p.p c.loop-p.edges (drop_all c.loop-p.p es (omega arith)) c.loop-p.invariant.1 i j
+          ∙ ap (λ (b : Bool). b && (marked cues j && arrow alike es i j)) (c.committed_cues-cues.ensures i)
+          ∙ ap (λ (b : Bool). committed es i && (b && arrow alike es i j)) (c.committed_cues-cues.ensures j);
     }
