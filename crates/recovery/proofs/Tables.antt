@@ -11,7 +11,7 @@ use Rattle.history.specs.Entries.{is_cue, by}
 use Rattle.history.proofs.By.{by_no_cue}
 use Rattle.history.proofs.Committed.{cue_low, cue_high}
 use Rattle.recovery.specs.declared.endings.Ends.{Ends}
-use Rattle.recovery.specs.Endings.{ends_by, first_of, first_noted, is_below, open_ends, Tells}
+use Rattle.recovery.specs.Endings.{ends_by, first_of, first_noted, is_below, open_ends, Notes}
 
 noted_none : (o : Option ℕ) (i : ℕ) → first_noted o false i ≡ o
 noted_none None i = refl
@@ -106,8 +106,8 @@ module _ {K : Type 0} (es : List (Entry K)) (i : ℕ) (cues : List Ends) (firsts
       ]
 
 -- what the table of all entries tells of a front of them
-pub table_tells : {K : Type 0} (es : List (Entry K)) (cues : List Ends) → Firsts es cues → Tells es (record { cues = cues })
-table_tells es cues firsts how n i h =
+pub table_notes : {K : Type 0} (es : List (Entry K)) (cues : List Ends) → Firsts es cues → Notes es (record { cues = cues })
+table_notes es cues firsts how n i =
     elim (cases_Bool (is_cue n)) [
       | inl c ↦ ap (λ (t : Bool). is_cue n && t) (some_front (by n (ends_by how)) 0 es i ∙ sym (ap (λ (o : Option ℕ). is_below o (0 + i)) (firsts how n c)) ∙ ap (λ (j : ℕ). is_below (first_of how (get_or cues (n - 1) open_ends)) j) (omega arith))
       | inr c ↦ and_left (is_cue n) _ c ∙ sym (and_left (is_cue n) _ c)

@@ -36,6 +36,10 @@ open_ends = record { commit = None; abort = None }
 abbrev pub ended_before : Ending → Endings → ℕ → ℕ → Bool
 ended_before how endings n i = is_cue n && is_below (first_of how (slice_index_or endings.cues (n - 1) open_ends)) i
 
--- of each front of the entries the table tells which cues ended there, and how
+-- the table has each cue's first ending of each kind, and no other: of a front of any length it tells which cues ended there, and how
+abbrev pub Notes : {K : Type 0} → List (Entry K) → Endings → Type 0
+Notes es endings = (how : Ending) (n i : ℕ) → acted (ends_by how) (take i es) n ≡ ended_before how endings n i
+
+-- of each front of the entries the table tells which cues ended there, and how; what came after these entries it may have too
 abbrev pub Tells : {K : Type 0} → List (Entry K) → Endings → Type 0
 Tells es endings = (how : Ending) (n i : ℕ) → i ≤ length es → acted (ends_by how) (take i es) n ≡ ended_before how endings n i

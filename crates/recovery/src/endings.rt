@@ -1,6 +1,6 @@
 // Where each cue of a history first ends, in a table that is made in one pass.
 ghost use Rattle.std.specs.Prelude.{◌≡◌};
-ghost use Rattle.recovery.specs.Endings.{Tells, first_of, first_noted, ends_by, ended_before};
+ghost use Rattle.recovery.specs.Endings.{Notes, first_of, first_noted, ends_by, ended_before};
 ghost use Rattle.history.specs.declared.Ending.{Ending};
 
 use history::{Act, Ending, Entry, is_cue};
@@ -48,7 +48,7 @@ pub struct Endings {
 
 impl Endings {
     pub fn of<K>(entries: &[Entry<K>]) -> Self
-        ensures { Tells entries.now result }
+        ensures { Notes entries.now result }
     {
         let mut cues = [Ends::OPEN; 64];
         for (i, e) in entries.iter().enumerate() {

@@ -1,6 +1,6 @@
 use Rattle.std.proofs.Common.{◌+◌, ◌-◌, length, take, set, sym, ap, refl, subst, ◌∙◌}
 use Rattle.std.proofs.lemmas.List.{length-set, take_all}
-use Rattle.recovery.proofs.Tables.{Firsts, none_yet, firsts_skip, firsts_note, table_tells}
+use Rattle.recovery.proofs.Tables.{Firsts, none_yet, firsts_skip, firsts_note, table_notes}
 use Rattle.recovery.proofs.endings.Endings.of.Goals as goal
 use Rattle.recovery.proofs.endings.Endings.of.Goals.{then-is_cue, else-is_cue}
 
@@ -27,4 +27,4 @@ pub returns : goal.returns
 returns g c =
     let es = c.args.entries.now in
     let all = take_all c.loop-i.i es c.loop-i-test.false in
-    table_tells es c.loop-i.cues (subst (λ front. Firsts front c.loop-i.cues) all c.loop-i.invariant.1)
+    table_notes es c.loop-i.cues (subst (λ front. Firsts front c.loop-i.cues) all c.loop-i.invariant.1)
