@@ -5,7 +5,7 @@ ghost use Rattle.std.specs.Prelude.{◌≡◌, ℕ, ◌+◌, ◌-◌, ◌≤◌,
 ghost use Rattle.graphs.specs.Edges.{FollowsForward};
 ghost use Rattle.graphs.specs.Answer.{Finds, search_refusal, refusal_in, strip_after, Lists};
 ghost use Rattle.orders.specs.Orders.{among};
-ghost use Rattle.graphs.specs.Rows.{waits, mark, Ready, Stuck, Picked, Marked, Placing, Walked};
+ghost use Rattle.graphs.specs.Rows.{waits, mark, Smallest, SmallestTo, Ready, Stuck, Picked, Marked, Placing, Walked};
 ghost use Rattle.graphs.specs.Kept.{Keeps};
 
 use refusals::Refusal;
@@ -96,14 +96,14 @@ impl<G: Graph> Marks<'_, G> {
 
     // The smallest waiting number.
     fn left(&self) -> Option<u32>
-        ensures { let U = waits (G.numbers self.now.graph.now) self.now.strip.now in MatchOption result ((m : ℕ) → 1 ≤ m → m ≤ 64 → U m ≡ false) (λ m. (1 ≤ m) × (m ≤ 64) × (U m ≡ true)) }
+        ensures { let U = waits (G.numbers self.now.graph.now) self.now.strip.now in MatchOption result ((m : ℕ) → 1 ≤ m → m ≤ 64 → U m ≡ false) (Smallest U) }
     {
         (1..65).find(|m| self.waits(*m))
     }
 
     // The smallest waiting number with an edge to `to`.
     fn before(&self, to: u32) -> Option<u32>
-        ensures { let U = waits (G.numbers self.now.graph.now) self.now.strip.now in let edge = G.edges self.now.graph.now in MatchOption result (Ready U edge to) (λ u. (1 ≤ u) × (u ≤ 64) × (U u ≡ true) × (edge u to ≡ true)) }
+        ensures { let U = waits (G.numbers self.now.graph.now) self.now.strip.now in let edge = G.edges self.now.graph.now in MatchOption result (Ready U edge to) (SmallestTo U edge to) }
     {
         (1..65).find(|m| self.waits(*m) && self.graph.edge(*m, to))
     }

@@ -34,7 +34,7 @@ loop-self-preserved g c =
     let new : mark s.strip.now c.loop-self.at ≡ 0 = sym c.mark.ensures ∙ c.loop-self-test.true in
     let u = rw (c.put.ensures.same.0, c.put.ensures.written) at c.in-Some.ensures in (
       (c.put.ensures.same.0 ∙ c.loop-self.invariant.0.0, c.put.ensures.same.1 ∙ c.loop-self.invariant.0.1),
-      rw (c.put.ensures.same.0, c.put.ensures.written) (walking_more has edge s.strip.now c.loop-self.base c.loop-self.at long c.loop-self.invariant.1 new c.in-Some.u u.0 u.1 u.2 u.3),
+      rw (c.put.ensures.same.0, c.put.ensures.written) (walking_more has edge s.strip.now c.loop-self.base c.loop-self.at long c.loop-self.invariant.1 new c.in-Some.u u.low u.high u.inside u.runs),
       rw (c.put.ensures.same.0, c.put.ensures.written) (stuck_still has edge s.strip.now c.loop-self.base c.loop-self.at long c.loop-self.invariant.1 new c.loop-self.invariant.2),
     )
 
