@@ -20,7 +20,7 @@ module _ {K : Type 0} (alike : K → K → Bool) (t : Constraints) where
     abbrev pub Marks : List (Entry K) → List Bool → Type 0
     Marks ws table = (n : ℕ) → marked table n ≡ writer alike member k ws n
 
-    marks_within : (ws : List (Entry K)) (table : List Bool) → Marks ws table → Within table t
+    pub marks_within : (ws : List (Entry K)) (table : List Bool) → Marks ws table → Within table t
     marks_within ws table marks n m = writer_in alike member k ws n (sym (marks n) ∙ m)
 
     module _ (i : ℕ) (ci : Member t i) where

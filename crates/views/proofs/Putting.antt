@@ -1,5 +1,5 @@
 -- The loops that note what a read asks of the other writers. Assumes nothing.
-use Rattle.std.proofs.Common.{◌≡◌, ℕ, ◌+◌, ◌<◌, Bool, true, false, not, ◌&&◌, ◌||◌, eqb, ltb, ◌⊎◌, List, sym, refl, subst, inl, inr, arith}
+use Rattle.std.proofs.Common.{◌≡◌, ℕ, ◌+◌, ◌<◌, Bool, true, false, not, ◌&&◌, ◌||◌, eqb, ltb, List, sym, refl, subst, inl, inr, arith}
 use Rattle.std.proofs.lemmas.Bool.{and_parts, or_cases}
 use Rattle.history.specs.Marked.{marked}
 use Rattle.history.proofs.Committed.{cue_high}
@@ -13,6 +13,14 @@ use Rattle.views.proofs.Noting.{notes_same, notes_two, upto_more, upto_past}
 pub same_member : (t t' : Constraints) → t'.members ≡ t.members → (n : ℕ) → Member t n → Member t' n
 same_member t t' e n m = subst (λ (ms : Members). marked ms.cues n ≡ true) (sym e) m
 
+-- another writer is a member, where the writers are
+pub other_in : (reader : ℕ) (writers : List Bool) (n : ℕ) (t : Constraints) → Within writers t → other reader writers n ≡ true → Member t n
+other_in reader writers n t within e = within n (and_parts (not (eqb n reader)) (marked writers n) e).1
+
+pub third_in : (source reader : ℕ) (earlier later : List Bool) (n : ℕ) (t : Constraints) → Within earlier t → Within later t → third source reader earlier later n ≡ true → Member t n
+third_in source reader earlier later n t we wl e =
+    elim (or_cases (marked earlier n) (marked later n) (and_parts (not (eqb n source) && not (eqb n reader)) (marked earlier n || marked later n) e).1) [ inl x ↦ we n x | inr x ↦ wl n x ]
+
 module _ (t : Constraints) (reader : ℕ) (writers : List Bool) where
   -- the reader comes before those below n
   abbrev pub FirstUpto : ℕ → Constraints → Type 0
@@ -22,7 +30,7 @@ module _ (t : Constraints) (reader : ℕ) (writers : List Bool) where
     pub first_more : (t'' : Constraints) → other reader writers n ≡ true → PutsAhead t' t'' reader n → FirstUpto (n + 1) t''
     first_more t'' e put cr within =
         let so_far = had cr within in
-        let cn = within n (and_parts (not (eqb n reader)) (marked writers n) e).1 in
+        let cn = other_in reader writers n t within e in
         let now = put (same_member t t' so_far.members reader cr) (same_member t t' so_far.members n cn) in
         notes_same (λ a b. (first reader writers a b && ltb b n) || (eqb a reader && eqb b n)) (λ a b. first reader writers a b && ltb b (n + 1)) none_apart none_apart t t''
         (λ a b. upto_more (eqb a reader) (other reader writers) n e b) (λ j r m. refl)
@@ -38,14 +46,11 @@ module _ (t : Constraints) (source reader : ℕ) (earlier later : List Bool) whe
   abbrev pub BetweenUpto : ℕ → Constraints → Type 0
   BetweenUpto m t' = Member t source → Member t reader → Within earlier t → Within later t → Notes none_ahead (λ j r n. split source reader earlier later j r n && ltb n m) t t'
 
-  third_is : (n : ℕ) → third source reader earlier later n ≡ true → (marked earlier n ≡ true) ⊎ (marked later n ≡ true)
-  third_is n e = or_cases (marked earlier n) (marked later n) (and_parts (not (eqb n source) && not (eqb n reader)) (marked earlier n || marked later n) e).1
-
   module _ (m : ℕ) (t' : Constraints) (had : BetweenUpto m t') where
     pub between_more : (t'' : Constraints) → third source reader earlier later m ≡ true → PutsApart t' t'' source reader m → BetweenUpto (m + 1) t''
     between_more t'' e put cs cr we wl =
         let so_far = had cs cr we wl in
-        let cm : Member t m = elim (third_is m e) [ inl x ↦ we m x | inr x ↦ wl m x ] in
+        let cm = third_in source reader earlier later m t we wl e in
         let same = same_member t t' so_far.members in
         let now = put (same source cs) (same reader cr) (same m cm) in
         notes_same none_ahead none_ahead (λ j r n. (split source reader earlier later j r n && ltb n m) || ((eqb j source && eqb r reader) && eqb n m)) (λ j r n. split source reader earlier later j r n && ltb n (m + 1)) t t''

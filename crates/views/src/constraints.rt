@@ -1,9 +1,9 @@
 // What a view-equivalent order must keep, derived from the book once.
-ghost use Rattle.std.specs.Prelude.{◌≡◌, ℕ, true};
+ghost use Rattle.std.specs.Prelude.{◌≡◌, ℕ};
 ghost use Rattle.history.specs.Entries.{committed};
 ghost use Rattle.history.specs.Marked.{marked};
 ghost use Rattle.equivalence.specs.Constraints.{sets, writer, last_writer};
-ghost use Rattle.views.specs.Noted.{other, PutsAhead, PutsApart, PutsFirst, third, PutsBetween, AskedRead, AskedWrite};
+ghost use Rattle.views.specs.Noted.{Member, Within, other, PutsAhead, PutsApart, PutsFirst, third, PutsBetween, AskedRead, AskedWrite};
 ghost use Rattle.views.specs.Tables.{ahead_in, apart_in, Asked, Derived};
 
 use crate::members::Members;
@@ -86,6 +86,7 @@ impl Constraints {
 
     // Notes that `a` must come before `b`.
     fn put_ahead(&mut self, a: u32, b: u32)
+        requires { Member self.old a × Member self.old b }
         ensures { PutsAhead self.old self.new a b }
     {
         if let Some(cell) = self.members.pair(a, b) {
@@ -95,6 +96,7 @@ impl Constraints {
 
     // Notes that `writer` must not stand between `source` and `reader`.
     fn put_apart(&mut self, source: u32, reader: u32, writer: u32)
+        requires { Member self.old source × Member self.old reader × Member self.old writer }
         ensures { PutsApart self.old self.new source reader writer }
     {
         if let Some(cell) = self.members.triple(source, reader, writer) {
@@ -104,6 +106,7 @@ impl Constraints {
 
     // Notes that the reader of the initial state comes before each other writer. A loop, since each turn changes the tables.
     fn put_first(&mut self, reader: u32, writers: &[bool; 64])
+        requires { Member self.old reader × Within writers.now self.old }
         ensures { PutsFirst self.old self.new reader writers.now }
     {
         for n in 1..65u32 {
@@ -115,6 +118,7 @@ impl Constraints {
 
     // Notes that no other writer stands between the cue of the source and the reader, in a loop as well.
     fn put_between(&mut self, source: u32, reader: u32, earlier: &[bool; 64], later: &[bool; 64])
+        requires { Member self.old source × Member self.old reader × Within earlier.now self.old × Within later.now self.old }
         ensures { PutsBetween self.old self.new source reader earlier.now later.now }
     {
         for n in 1..65u32 {
@@ -132,7 +136,7 @@ impl Constraints {
         item: K,
         after: &[Entry<K>],
     ) -> Option<()>
-        requires { marked self.old.members.cues cue ≡ true }
+        requires { Member self.old cue }
         ensures { AskedRead K.Item.alike self.old self.new before.now cue item after.now result }
     {
         let earlier = self.members.writers_of(before, item);
@@ -154,7 +158,7 @@ impl Constraints {
 
     // What a write asks: its cue comes before that of the last write of the item.
     fn ask_write<K: Item>(&mut self, cue: u32, item: K, after: &[Entry<K>])
-        requires { marked self.old.members.cues cue ≡ true }
+        requires { Member self.old cue }
         ensures { AskedWrite K.Item.alike self.old self.new cue item after.now }
     {
         if let Some(last) = self.members.writers_of(after, item).last {

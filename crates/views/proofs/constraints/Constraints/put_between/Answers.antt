@@ -1,9 +1,19 @@
 use Rattle.std.proofs.Common.{◌+◌, sym, subst}
 use Rattle.views.specs.declared.constraints.Constraints.{Constraints}
 use Rattle.views.specs.Noted.{PutsApart}
-use Rattle.views.proofs.Putting.{BetweenUpto, between_more, between_past}
+use Rattle.views.proofs.Putting.{same_member, third_in, BetweenUpto, between_more, between_past}
 use Rattle.views.proofs.constraints.Constraints.put_between.Goals as goal
 use Rattle.views.proofs.constraints.Constraints.put_between.Goals.{then-is_third, else-is_third}
+
+pub put_apart-requires : goal.put_apart-requires
+put_apart-requires c =
+    let t = c.args.self.now in
+    let n = c.loop-n.n in
+    let same = same_member t c.loop-n.self (c.loop-n.invariant c.requires.0 c.requires.1 c.requires.2 c.requires.3).members in (
+      same c.args.source c.requires.0,
+      same c.args.reader c.requires.1,
+      same n (third_in c.args.source c.args.reader c.args.earlier.now c.args.later.now n t c.requires.2 c.requires.3 (sym c.if-is_third.ensures)),
+    )
 
 pub loop-n-preserved : goal.loop-n-preserved
 loop-n-preserved c =
