@@ -1,26 +1,72 @@
--- A cycle of two cues. Assumes nothing.
-use Rattle.std.proofs.Common.{◌≡◌, ℕ, zero, suc, ◌+◌, ◌<◌, Bool, true, List, [], ◌∷◌, get_or, arith}
+-- That cues are a cycle, by computing. Assumes nothing.
+use Rattle.std.proofs.Common.{◌≡◌, ℕ, zero, suc, ◌+◌, ◌-◌, ◌<◌, ◌≤◌, Bool, true, false, not, ◌&&◌, List, [], ◌∷◌, length, eqb, leb, get_or, arith, ap, ◌∙◌, refl}
+use Rattle.std.specs.List.{list_all}
+use Rattle.std.proofs.lemmas.Bool.{and_parts, leb-true, eq-eqb, not-true, both_ways}
 use Rattle.history.specs.declared.Entry.{Entry}
 use Rattle.history.specs.Entries.{committed}
 use Rattle.history.specs.Order.{arrow, ConflictCycle}
 
-module _ {K : Type 0} {alike : K → K → Bool} {es : List (Entry K)} {m n : ℕ} where
-  -- two committed cues, each with an arrow to the other
-  pub cycle_of_two : m < n → committed es m ≡ true → committed es n ≡ true → arrow alike es m n ≡ true → arrow alike es n m ≡ true → ConflictCycle alike es (m ∷ n ∷ [])
-  cycle_of_two less first second there back =
-      record { two = omega arith; members = members; distinct = distinct; steps = steps; closes = back }
-    where
-      members : (i : ℕ) → i < 2 → committed es (get_or (m ∷ n ∷ []) i 0) ≡ true
-      members zero h = first
-      members (suc zero) h = second
-      members (suc (suc i)) h = absurd (omega arith)
+all_at : (test : ℕ → Bool) (c : List ℕ) (i : ℕ) → i < length c → list_all test c ≡ true → test (get_or c i 0) ≡ true
+all_at test [] i l h = absurd (omega arith)
+all_at test (n ∷ ns) zero l h = (and_parts (test n) (list_all test ns) h).0
+all_at test (n ∷ ns) (suc i) l h = all_at test ns i (omega arith) (and_parts (test n) (list_all test ns) h).1
 
-      distinct : (i j : ℕ) → i < j → j < 2 → get_or (m ∷ n ∷ []) i 0 ≡ get_or (m ∷ n ∷ []) j 0 → ⊥
-      distinct zero zero l h e = omega arith
-      distinct zero (suc zero) l h e = omega arith
-      distinct zero (suc (suc j)) l h e = omega arith
-      distinct (suc i) j l h e = omega arith
+abbrev pub other : ℕ → ℕ → Bool
+other m n = not (eqb m n)
 
-      steps : (i : ℕ) → i + 1 < 2 → arrow alike es (get_or (m ∷ n ∷ []) i 0) (get_or (m ∷ n ∷ []) (i + 1) 0) ≡ true
-      steps zero h = there
-      steps (suc i) h = absurd (omega arith)
+abbrev pub apart : List ℕ → Bool
+apart [] = true
+apart (n ∷ ns) = list_all (other n) ns && apart ns
+
+other_differs : (m n : ℕ) → other m n ≡ true → m ≡ n → ⊥
+other_differs m n h e = both_ways (eqb m n) (not-true (eqb m n) h) (eq-eqb m n e)
+
+apart_at : (c : List ℕ) (i j : ℕ) → i < j → j < length c → apart c ≡ true → get_or c i 0 ≡ get_or c j 0 → ⊥
+apart_at [] i j l m h e = omega arith
+apart_at (n ∷ ns) i zero l m h e = omega arith
+apart_at (n ∷ ns) zero (suc j) l m h e =
+    other_differs n (get_or ns j 0) (all_at (other n) ns j (omega arith) (and_parts (list_all (other n) ns) (apart ns) h).0) e
+apart_at (n ∷ ns) (suc i) (suc j) l m h e = apart_at ns i j (omega arith) (omega arith) (and_parts (list_all (other n) ns) (apart ns) h).1 e
+
+module _ {K : Type 0} (alike : K → K → Bool) (es : List (Entry K)) where
+  -- each has an arrow to the next, and the last to the one that is named
+  abbrev pub leads : ℕ → List ℕ → Bool
+  leads to [] = false
+  leads to (n ∷ []) = arrow alike es n to
+  leads to (n ∷ m ∷ ns) = arrow alike es n m && leads to (m ∷ ns)
+
+  -- two or more committed cues, each another, each with an arrow to the next and the last to the first
+  abbrev pub is_cycle : List ℕ → Bool
+  is_cycle [] = false
+  is_cycle (n ∷ ns) = leb 1 (length ns) && (list_all (committed es) (n ∷ ns) && (apart (n ∷ ns) && leads n (n ∷ ns)))
+
+  leads_on : (to : ℕ) (c : List ℕ) (i : ℕ) → suc i < length c → leads to c ≡ true → arrow alike es (get_or c i 0) (get_or c (suc i) 0) ≡ true
+  leads_on to [] i l h = absurd (omega arith)
+  leads_on to (n ∷ []) i l h = absurd (omega arith)
+  leads_on to (n ∷ m ∷ ns) zero l h = (and_parts (arrow alike es n m) (leads to (m ∷ ns)) h).0
+  leads_on to (n ∷ m ∷ ns) (suc i) l h = leads_on to (m ∷ ns) i (omega arith) (and_parts (arrow alike es n m) (leads to (m ∷ ns)) h).1
+
+  leads_back : (to n : ℕ) (ns : List ℕ) → leads to (n ∷ ns) ≡ true → arrow alike es (get_or (n ∷ ns) (length ns) 0) to ≡ true
+  leads_back to n [] h = h
+  leads_back to n (m ∷ ns) h = leads_back to m ns (and_parts (arrow alike es n m) (leads to (m ∷ ns)) h).1
+
+  pub cycle_of : (c : List ℕ) → is_cycle c ≡ true → ConflictCycle alike es c
+  cycle_of [] h = absurd (both_ways false refl h)
+  cycle_of (n ∷ ns) h =
+      let p = and_parts (leb 1 (length ns)) (list_all (committed es) (n ∷ ns) && (apart (n ∷ ns) && leads n (n ∷ ns))) h in
+      let q = and_parts (list_all (committed es) (n ∷ ns)) (apart (n ∷ ns) && leads n (n ∷ ns)) p.1 in
+      let r = and_parts (apart (n ∷ ns)) (leads n (n ∷ ns)) q.1 in
+      let some : 1 ≤ length ns = leb-true 1 (length ns) p.0 in
+      let last : length (n ∷ ns) - 1 ≡ length ns = omega arith in
+      let next : (i : ℕ) → i + 1 ≡ suc i = λ i. omega arith in
+      record {
+        two = omega (arith, some);
+        members = λ i l. all_at (committed es) (n ∷ ns) i l q.0;
+        distinct = λ i j l m e. apart_at (n ∷ ns) i j l m r.0 e;
+        steps = λ i l. ap (λ (k : ℕ). arrow alike es (get_or (n ∷ ns) i 0) (get_or (n ∷ ns) k 0)) (next i) ∙ leads_on n (n ∷ ns) i (omega (arith, l)) r.1;
+        closes = ap (λ (i : ℕ). arrow alike es (get_or (n ∷ ns) i 0) n) last ∙ leads_back n n ns r.1;
+      }
+
+module _ {K : Type 0} {alike : K → K → Bool} {es : List (Entry K)} {c : List ℕ} where
+  pub cycle : is_cycle alike es c ≡ true → ConflictCycle alike es c
+  cycle h = cycle_of alike es c h

@@ -1,8 +1,8 @@
 -- That the definitions agree with each row, by computing. Assumes nothing.
-use Rattle.std.proofs.Common.{refl, arith}
+use Rattle.std.proofs.Common.{refl}
 use Rattle.orders.specs.Orders.{among}
 use Rattle.agreement.specs.Samples.{SamplesAgree}
-use Rattle.agreement.proofs.Cycles.{cycle_of_two}
+use Rattle.agreement.proofs.Cycles.{cycle}
 
 infixr 20 ◌&◌
 -- a row's proof and the others'
@@ -19,17 +19,43 @@ samples_agree_lem =
           (refl, refl, refl, refl) &
           (refl, refl, refl, refl) &
           (refl, refl, refl, refl) &
-          (refl, refl, (refl, cycle_of_two (omega arith) refl refl refl refl), refl) &
-          (refl, refl, (refl, cycle_of_two (omega arith) refl refl refl refl), refl) &
-          (refl, refl, (refl, cycle_of_two (omega arith) refl refl refl refl), refl) &
-          (refl, refl, (refl, cycle_of_two (omega arith) refl refl refl refl), refl) &
+          (refl, refl, (refl, cycle refl), refl) &
+          (refl, refl, (refl, cycle refl), refl) &
+          (refl, refl, (refl, cycle refl), refl) &
+          (refl, refl, (refl, cycle refl), refl) &
           (refl, refl, refl, refl) &
           (refl, refl, refl, refl) &
           tt;
       of_marks = (refl, refl, refl, refl) & tt;
       of_interleavings =
-          (refl, refl, (refl, cycle_of_two (omega arith) refl refl refl refl), refl) &
-          (refl, refl, (refl, cycle_of_two (omega arith) refl refl refl refl), refl) &
+          (refl, refl, (refl, cycle refl), refl) &
+          (refl, refl, (refl, cycle refl), refl) &
+          (refl, refl, refl, refl) &
+          (refl, refl, refl, refl) &
+          (refl, refl, refl, refl) &
+          (refl, refl, refl, refl) &
+          tt;
+      of_histories =
+          (refl, refl, refl, refl) &
+          (refl, refl, refl, refl) &
+          (refl, refl, refl, refl) &
+          (refl, refl, refl, refl) &
+          (refl, refl, refl, refl) &
+          (refl, refl, refl, refl) &
+          (refl, refl, refl, refl) &
+          (refl, refl, (refl, cycle refl), refl) &
+          (refl, refl, (refl, cycle refl), refl) &
+          (refl, refl, (refl, cycle refl), refl) &
+          (refl, refl, (refl, cycle refl), refl) &
+          (refl, refl, refl, refl) &
+          (refl, refl, refl, refl) &
+          (refl, refl, (refl, cycle refl), refl) &
+          (refl, refl, (refl, cycle refl), refl) &
+          (refl, refl, refl, refl) &
+          (refl, refl, refl, refl) &
+          (refl, refl, refl, refl) &
+          (refl, refl, (refl, cycle refl), refl) &
+          (refl, refl, (refl, cycle refl), refl) &
           (refl, refl, refl, refl) &
           (refl, refl, refl, refl) &
           (refl, refl, refl, refl) &
