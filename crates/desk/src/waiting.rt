@@ -23,7 +23,7 @@ fn is_out_of_range(row: Wait) -> bool {
 }
 
 // Prints the order or the cycle that a search left at the front of the list, each number right-justified in five columns, or the
-// number of its refusal. By a function, since a `Result` of others takes no `Display` of ours.
+// number of its refusal. By a function: `Result` is the library's type, and this crate cannot give it a `Display`.
 fn print_found(
     rt: &HostRuntime,
     found: Result<Found, Refusal>,

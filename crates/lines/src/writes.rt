@@ -62,8 +62,8 @@ pub fn write_line<K: Item>(entry: &Entry<K>, space: &mut [u8]) -> Result<(), Ref
     Ok(())
 }
 
-// Reads the first line of a sheet and writes it into a space, byte for byte as it stood; `false` at the sheet's end, where nothing is written
-// and no value could tell more.
+// Reads the first line of a sheet and writes it into a space, byte for byte as it stood; answers `false` at the sheet's end, where there is
+// no line to copy.
 pub fn copy_line<K: Exact>(sheet: &[u8], space: &mut [u8]) -> Result<bool, Layer>
     ensures answer { result ≡ copied K.Item.parsed sheet.now (length space.old) }
     ensures space { space.new ≡ space_copied result sheet.now space.old }

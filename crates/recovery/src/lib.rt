@@ -18,11 +18,11 @@ use past::Past;
 // The class of a history, with the place of the first break that keeps it from the next class.
 #[derive(Clone, Copy, PartialEq, Eq, Debug)]
 pub enum Class {
-    // Not recoverable: a cue commits that read from a cue that has not.
+    // Not recoverable: a cue commits that read from another that has not.
     NotRecoverable(usize),
-    // Recoverable, but not cascadeless: a cue reads from a cue that has not committed.
+    // Recoverable, but not cascadeless: a cue reads from another that has not committed.
     Recoverable(usize),
-    // Cascadeless, but not strict: a cue reads or writes what a cue wrote that has not ended.
+    // Cascadeless, but not strict: a cue reads or writes what another cue wrote that has not ended.
     Cascadeless(usize),
     Strict,
 }

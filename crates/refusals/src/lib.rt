@@ -56,7 +56,7 @@ pub enum Refusal {
 }
 
 impl Refusal {
-    // A cast asks for the enum itself, so each has its own.
+    // Not shared with `LineRefusal`: a cast takes an enum, and no type parameter.
     pub fn number(self) -> u32
         ensures { result ≡ number_of self }
     {

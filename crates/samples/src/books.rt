@@ -85,7 +85,7 @@ pub const AXES: [Sample<'static>; 42] = [
         shows: "the second waits for the first",
         book: "w1(1) w1(2) r2(4) w1(3) c1 w2(1) r2(2) w2(2) c2",
     },
-    // Transfers and longer histories of lectures on precedence graphs, with their items numbered.
+    // Transfers, and longer histories, with their items numbered.
     Sample {
         shows: "transfers one after the other",
         book: "r1(1) w1(1) r1(2) w1(2) c1 r2(1) w2(1) r2(2) w2(2) c2",
@@ -134,7 +134,7 @@ pub const AXES: [Sample<'static>; 42] = [
         shows: "the smallest that can go first goes first",
         book: "r3(1) w1(1) r4(2) w2(2) c1 c2 c3 c4",
     },
-    // Histories of lectures on view serializability, with their items numbered.
+    // Histories in which views can differ from order.
     Sample {
         shows: "blind writes after a read, the last of a third cue",
         book: "r3(1) w4(1) w3(1) w5(1) c3 c4 c5",

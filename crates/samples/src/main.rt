@@ -23,8 +23,8 @@ pub struct Sample<'a> {
 // How many entries a sample has at most.
 const PLACES: usize = 20;
 
-// Cues after a word for what they are. This and what follows by functions, since a `Result` of others takes no `Display` of ours
-// without a type around it.
+// Cues after a word for what they are. This and what follows by functions: `Result` is the library's type, and this crate cannot give
+// it a `Display`.
 fn print_cues(rt: &HostRuntime, word: &str, cues: &[u32]) -> io::Result<()> {
     println!(rt; "  {word}{}", Spaced(cues))
 }

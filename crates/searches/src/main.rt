@@ -9,7 +9,7 @@ use words::Spaced;
 // The byte that a strip is lent with.
 const LENT: u8 = 9;
 
-// By a function, since a `Result` of others takes no `Display` of ours.
+// By a function: `Result` is the library's type, and this crate cannot give it a `Display`.
 fn print_found(rt: &HostRuntime, found: Result<Found, Refusal>) -> io::Result<()> {
     match found {
         Ok(Found::Order(count)) => println!(rt; "order of {count}"),

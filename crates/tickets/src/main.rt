@@ -9,7 +9,7 @@ use std::io;
 
 const LIGHT: Axis = Axis { number: 5 };
 
-// What comes of a call is printed by functions, since a `Result` of others takes no `Display` of ours without a type around it.
+// What comes of a call is printed by functions: `Result` is the library's type, and this crate cannot give it a `Display`.
 fn print_begun(rt: &HostRuntime, answer: Result<Ticket, Refusal>) -> io::Result<()> {
     match answer {
         Ok(ticket) => println!(rt; "a ticket for cue {}", ticket.cue()),

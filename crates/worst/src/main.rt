@@ -141,7 +141,7 @@ fn fill(book: &mut Book<'_, Axis>, kind: Kind) {
     }
 }
 
-// By a function, since a `Result` of others takes no `Display` of ours.
+// By a function: `Result` is the library's type, and this crate cannot give it a `Display`.
 fn print_answer(
     rt: &HostRuntime,
     answer: Result<Option<usize>, Refusal>,
