@@ -7,7 +7,8 @@ tools/planted.py --table [CRATE..]     prints the table of what the last such ru
 An edit has the form of a must-fail edit ('file:', then pairs of 'old:' and 'new:'), and before that '# in:', the function
 in which the bug stands. The edits of crates/CRATE/must-fail/ are tried too: those that have an '# in:' line.
 What a run finds is kept in tools/planted/found.txt, a line to an edit: crate, function, edit, how it ended and the first
-error. It ends with 1 where an edit is still proved, or could not be tried.
+error. It ends with 1 where an edit is not refused for a fact: where it is still proved, could not be tried (BAD), was refused
+for a lost name alone (names), or with a first error that tells of none (unclear).
 """
 
 import os
@@ -20,6 +21,10 @@ import tempfile
 TOP = os.path.dirname(os.path.dirname(os.path.abspath(__file__)))
 PLANTED = os.path.join(TOP, "tools", "planted")
 FOUND = os.path.join(PLANTED, "found.txt")
+
+
+# First errors that tell of no fact: none at all, what only follows from another error, or a name that a written proof lost.
+UNCLEAR = re.compile(r"^\s*$|declarations? that depends? on|`: record `")
 
 
 def function_of(edit):
@@ -58,8 +63,8 @@ def ended(text):
         return ("PROVED" if "NOT REFUSED" in text else "BAD"), text
     if "only because a proof file" in text:
         return "names", text.split("): ", 1)[-1]
-    said = text.split("as it must be", 1)[1]
-    return "refused", re.sub(r"^( \([^)]*\))?:? ?", "", said)
+    error = re.sub(r"^( \([^)]*\))?:? ?", "", text.split("as it must be", 1)[1])
+    return ("unclear" if UNCLEAR.search(error) else "refused"), error
 
 
 def tried(crates):
@@ -114,7 +119,7 @@ def kind_of(error):
 
 def goal_of(error):
     """The goal that the first error says is not proved."""
-    named = re.findall(r"`([^`]*)`", error)
+    named = [name for name in re.findall(r"`([^`]*)`", error) if name != "search"]
     return f"`{named[0]}`" if named else error[:60]
 
 
@@ -143,12 +148,11 @@ def main(words):
     for crate in crates:
         for name, (_, function) in edits_of(crate).items():
             how, error = ended(said.get((crate, name), ": BAD: rt said nothing of it"))
-            left += how in ("PROVED", "BAD")
+            left += how != "refused"
             rows.append((crate, function, name[: -len(".edit")], how, error.replace("\t", " ")))
             print(f"{how:8} {crate} {function} {name}: {error}")
     write_found(crates, rows)
-    print(f"{len(rows)} planted, {sum(row[3] == 'refused' for row in rows)} refused, "
-          f"{sum(row[3] == 'names' for row in rows)} only for names, {left} proved or bad")
+    print(f"{len(rows)} planted, {len(rows) - left} refused for a fact, {left} not")
     return 1 if left else 0
 
 
