@@ -12,4 +12,5 @@ pub mod Reading
 pub mod LastWrites
 pub mod Allowed
 pub mod Extended
+pub mod FirstOrders
 pub mod Fitting

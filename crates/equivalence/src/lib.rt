@@ -3,7 +3,7 @@
 
 ghost use Rattle.equivalence.specs.Constraints.{ViewIsAllowed};
 ghost use Rattle.equivalence.specs.Extending.{ViewsByConstraints};
-ghost use Rattle.equivalence.specs.Laws.{KeptIsView, ViewIsSame};
+ghost use Rattle.equivalence.specs.Laws.{FirstOrdersAreRight, KeptIsView, ViewIsSame};
 
 // That an order which keeps every conflicting pair is view-equivalent, for any number of cues.
 pub fn kept_is_view<K>()
@@ -19,4 +19,10 @@ pub fn view_is_same<K>()
 pub fn view_is_allowed<K>()
     ensures allowed { ViewIsAllowed K }
     ensures first { ViewsByConstraints K }
+{}
+
+// That the first orders which the definitions of order and views find are right to answer, and
+// that it is right to answer that there is none where they find none.
+pub fn first_orders_are_right<K>()
+    ensures { FirstOrdersAreRight K }
 {}

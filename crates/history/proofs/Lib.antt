@@ -1,4 +1,6 @@
 pub mod By
 pub mod Committed
 pub mod Endings
+pub mod Keeping
 pub mod Marks
+pub mod Places

@@ -6,6 +6,7 @@ ghost use Rattle.history.specs.Conflicts.{conflict, writes};
 ghost use Rattle.history.specs.Endings.{act_of};
 ghost use Rattle.history.specs.Entries.{is_cue, is_commit, is_abort, ends, acted, committed, ended, opened};
 ghost use Rattle.history.specs.Marked.{marked};
+ghost use Rattle.history.specs.Order.{KeepsIsKeepsConflicts};
 
 use items::Item;
 
@@ -152,3 +153,9 @@ pub fn conflicts<K: Item>(x: &Entry<K>, y: &Entry<K>) -> bool
         _ => false,
     }
 }
+
+// That an order passes the test `keeps` exactly when, for each two places of conflicting entries of
+// committed cues, it has the cue of the earlier entry before that of the later one.
+pub fn keeps_stands<K>()
+    ensures { KeepsIsKeepsConflicts K }
+{}

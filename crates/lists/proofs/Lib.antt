@@ -5,6 +5,7 @@ pub mod Has
 pub mod Last
 pub mod Pairs
 pub mod Passes
+pub mod Places
 pub mod Some
 pub mod Steps
 pub mod Takes

@@ -1,9 +1,11 @@
--- What comes before what in an order. Assumes nothing.
-use Rattle.std.proofs.Common.{◌≡◌, ℕ, Bool, true, false, cond, ◌||◌, eqb, ◌⊎◌, List, [], ◌∷◌, sym, refl, ap, ◌∙◌, inl, inr}
+-- What comes before what in an order.
+use Rattle.std.proofs.Common.{◌≡◌, ℕ, zero, suc, ◌<◌, Bool, true, false, cond, ◌||◌, eqb, ◌⊎◌, List, [], ◌∷◌, Some, sym, refl, ap, ◌∙◌, inl, inr, arith}
+use Rattle.std.specs.List.{slice_get}
 use Rattle.std.proofs.lemmas.Bool.{false≢true, both_ways, cases_Bool, cond-true, cond-false, eq-eqb, eqb-true, ne_eqb, or_left, or_right}
 use Rattle.lists.specs.Lists.{has}
 use Rattle.orders.specs.Orders.{without, precedes}
-use Rattle.orders.specs.Least.{Stands, Distinct, Rearranges}
+use Rattle.lists.proofs.Places.{some_at, at_some}
+use Rattle.orders.specs.Least.{Stands, Distinct, Rearranges, ComesBefore}
 
 pub cond_cases : (t x y : Bool) → cond t x y ≡ true → ((t ≡ true) × (x ≡ true)) ⊎ ((t ≡ false) × (y ≡ true))
 cond_cases true x y h = inl (refl, h)
@@ -78,3 +80,31 @@ rearranged_has us (x ∷ o) h m =
 pub rearranged_distinct : (us o : List ℕ) → Rearranges us o → Distinct o
 rearranged_distinct us [] h = tt
 rearranged_distinct us (x ∷ o) h = (rearranged_has (without x us) o h.1 x ∙ has_without x us, rearranged_distinct (without x us) o h.1)
+
+-- the test tells of the cells
+pub precedes_comes : (a b : ℕ) (o : List ℕ) → precedes a b o ≡ true → ComesBefore a b o
+precedes_comes a b [] h = absurd (false≢true h)
+precedes_comes a b (n ∷ ns) h =
+    elim (cond_cases (eqb n a) (has b ns) (precedes a b ns) h) [
+      | inl k ↦
+          let r = some_at (λ m. eqb m b) ns k.1 in
+          record { i = 0; j = suc r.0; first = ap Some (eqb-true n a k.0); second = r.2 ∙ ap Some (eqb-true r.1 b r.3); before = omega arith }
+      | inr k ↦
+          let r = precedes_comes a b ns k.1 in
+          record { i = suc r.i; j = suc r.j; first = r.first; second = r.second; before = omega (arith, r.before) }
+    ]
+
+precedes_at : (a b : ℕ) (o : List ℕ) (i j : ℕ) → i < j → slice_get o i ≡ Some a → slice_get o j ≡ Some b → precedes a b o ≡ true
+precedes_at a b [] i j l gi gj = cc
+precedes_at a b (n ∷ ns) i zero l gi gj = absurd (omega arith)
+precedes_at a b (n ∷ ns) zero (suc j) l gi gj =
+    let e : n ≡ a = cc in
+    cond-true (eqb n a) (has b ns) (precedes a b ns) (eq-eqb n a e) ∙ at_some (λ m. eqb m b) ns j b gj (eq-eqb b b refl)
+precedes_at a b (n ∷ ns) (suc i) (suc j) l gi gj =
+    elim (cases_Bool (eqb n a)) [
+      | inl t ↦ cond-true (eqb n a) (has b ns) (precedes a b ns) t ∙ at_some (λ m. eqb m b) ns j b gj (eq-eqb b b refl)
+      | inr f ↦ cond-false (eqb n a) (has b ns) (precedes a b ns) f ∙ precedes_at a b ns i j (omega arith) gi gj
+    ]
+
+pub comes_precedes : (a b : ℕ) (o : List ℕ) → ComesBefore a b o → precedes a b o ≡ true
+comes_precedes a b o c = precedes_at a b o c.i c.j c.before c.first c.second

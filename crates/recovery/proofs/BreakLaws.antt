@@ -22,19 +22,19 @@ breaks_stay K rule es more zero h = refl
 breaks_stay K rule es more (suc i) h = passes_front rule [] es more i (omega arith)
 
 module _ {K : Type 0} where
-  found_is_break : (rule : List (Entry K) → Entry K → Bool) (es : List (Entry K)) (p : ℕ) → first_break rule es ≡ Some p → breaks rule es p ≡ true
+  pub found_is_break : (rule : List (Entry K) → Entry K → Bool) (es : List (Entry K)) (p : ℕ) → first_break rule es ≡ Some p → breaks rule es p ≡ true
   found_is_break rule es p h =
       let r = first_found rule 1 [] es p h in
       let e : suc r.0 ≡ p = omega (arith, r.1) in
       subst (λ (q : ℕ). breaks rule es q ≡ true) e r.2.0
 
-  none_before : (rule : List (Entry K) → Entry K → Bool) (es : List (Entry K)) (p q : ℕ) → first_break rule es ≡ Some p → q < p → breaks rule es q ≡ false
+  pub none_before : (rule : List (Entry K) → Entry K → Bool) (es : List (Entry K)) (p q : ℕ) → first_break rule es ≡ Some p → q < p → breaks rule es q ≡ false
   none_before rule es p zero h l = refl
   none_before rule es p (suc j) h l =
       let r = first_found rule 1 [] es p h in
       r.2.1 j (omega (arith, r.1))
 
-  no_break : (rule : List (Entry K) → Entry K → Bool) (es : List (Entry K)) (q : ℕ) → first_break rule es ≡ None → breaks rule es q ≡ false
+  pub no_break : (rule : List (Entry K) → Entry K → Bool) (es : List (Entry K)) (q : ℕ) → first_break rule es ≡ None → breaks rule es q ≡ false
   no_break rule es zero h = refl
   no_break rule es (suc j) h = first_none rule 1 [] es h j
 
@@ -54,7 +54,7 @@ module _ {K : Type 0} where
   reads_touches f Commit r = absurd (false≢true r)
   reads_touches f Abort r = absurd (false≢true r)
 
-  found_is : (test : Entry K → Bool) (o : Option (ℕ × Entry K)) → found_by test o ≡ true → (p : ℕ × Entry K) × (o ≡ Some p) × (test p.1 ≡ true)
+  pub found_is : (test : Entry K → Bool) (o : Option (ℕ × Entry K)) → found_by test o ≡ true → (p : ℕ × Entry K) × (o ≡ Some p) × (test p.1 ≡ true)
   found_is test None h = absurd (false≢true h)
   found_is test (Some p) h = (p, refl, h)
 
@@ -81,7 +81,7 @@ module _ {K : Type 0} where
       ]
 
   -- some entry, for get_or where it is not past the end
-  default : (es : List (Entry K)) (i : ℕ) → i < length es → Entry K
+  pub default : (es : List (Entry K)) (i : ℕ) → i < length es → Entry K
   default [] i h = absurd (omega arith)
   default (e ∷ es) i h = e
 

@@ -4,8 +4,10 @@
 ghost use Rattle.std.specs.Prelude.{◌≡◌, ◌+◌, ◌<◌, IfSome, take, drop};
 ghost use Rattle.lists.specs.Lists.{first_from};
 ghost use Rattle.recovery.specs.Classes.{class_number, class_place, class_of};
+ghost use Rattle.recovery.specs.ReadsFrom.{IsClass};
 ghost use Rattle.recovery.specs.Rules.{Computes};
 ghost use Rattle.recovery.specs.Laws.{BreaksStay, FirstBreak, BreaksComeTogether, ClassNeverRises};
+ghost use Rattle.recovery.specs.Laws.{SourceIsReadFrom, BreaksAreByPlaces, ClassIsByPlaces};
 
 mod endings;
 mod past;
@@ -15,7 +17,8 @@ use history::Entry;
 use items::Item;
 use past::Past;
 
-// The class of a history, with the place of the first break that keeps it from the next class.
+// The class of a history, with the place, from 1, of the first break that keeps it from the next
+// class.
 #[derive(Clone, Copy, PartialEq, Eq, Debug)]
 pub enum Class {
     // Not recoverable: a cue commits that read from another that has not.
@@ -73,7 +76,8 @@ fn first_break<K, F: Fn(usize, &Entry<K>) -> bool>(
 // The class of a history. A break of cascadelessness is one of strictness too, and a break of recoverability follows one
 // of cascadelessness, so each rule is looked at only from the first break of the rule before it on.
 pub fn class_of<K: Item>(entries: &[Entry<K>]) -> Class
-    ensures { result ≡ class_of K.Item.alike entries.now }
+    ensures class { result ≡ class_of K.Item.alike entries.now }
+    ensures breaks { IsClass K.Item.alike entries.now result }
 {
     let endings = Endings::of(entries);
     let history = Past {
@@ -106,4 +110,7 @@ pub fn laws_hold<K>()
     ensures first { FirstBreak K }
     ensures together { BreaksComeTogether K }
     ensures falls { ClassNeverRises K }
+    ensures source { SourceIsReadFrom K }
+    ensures places { BreaksAreByPlaces K }
+    ensures class { ClassIsByPlaces K }
 {}
