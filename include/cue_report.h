@@ -12,8 +12,8 @@
  * behind the report is not written. No byte is added after the report, so it is no C string.
  *
  * A space of fewer than 388 bytes is refused before the sheet is looked at: the answer is 25 and
- * nothing is written. No report is 25 bytes long, so the answer alone tells the two apart; 388
- * bytes are enough for every report.
+ * nothing is written. No report is 25 bytes long, so the answer alone tells the two apart, as the
+ * contract of the call promises; 388 bytes are enough for every report.
  *
  * The caller sees to it that both pointers are valid for their lengths, that neither is null (even
  * where the length is 0), and that the two pieces of memory do not overlap.

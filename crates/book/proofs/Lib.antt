@@ -1,2 +1,3 @@
 pub mod Entering
 pub mod Reading
+pub mod ReadsIn

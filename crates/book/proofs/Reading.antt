@@ -1,6 +1,5 @@
 -- The steps of reading a sheet in. Assumes nothing.
-use Rattle.std.proofs.Common.{◌≡◌, ℕ, suc, ◌+◌, ◌/◌, ◌<◌, min, List, [], ◌∷◌, ◌++◌, length, take, drop, Some, None, Ok, Err, Option, Result, subst, sym, refl, ap, ◌∙◌, arith}
-use Rattle.std.specs.Result.{MatchResult, IsErrAnd}
+use Rattle.std.proofs.Common.{◌≡◌, ℕ, suc, ◌+◌, ◌/◌, ◌<◌, min, List, [], ◌∷◌, ◌++◌, length, take, drop, Some, None, Ok, Err, Option, Result, sym, refl, ap, ◌∙◌, arith}
 use Rattle.std.proofs.lemmas.List.{length-drop, length_push, take_at, drop_at}
 use Rattle.lists.proofs.Takes.{take_min, drop_min}
 use Rattle.refusals.specs.declared.LineRefusal.{LineRefusal}
@@ -18,11 +17,6 @@ lines_more bs h =
     let left = length-drop 16 bs in
     let next : (length bs + 15) / 16 ≡ suc ((length (drop 16 bs) + 15) / 16) = omega arith in
     ap (λ (n : ℕ). lines_by n bs) next
-
--- what `map_err` made of an error
-pub err_mapped : {T D E : Type 0} {Q : E → D → Type 0} (r : Result T E) (s : Result T D) (f : E → D) → MatchResult r (λ x. s ≡ Ok x) (λ e. IsErrAnd s (Q e)) → ((e : E) (d : D) → Q e d → d ≡ f e) → (d : D) → s ≡ Err d → (e : E) × (r ≡ Err e) × (d ≡ f e)
-err_mapped (Ok x) s f cases made d is = absurd (let z : ◌≡◌ {A = ℕ} 0 1 = cc in omega arith)
-err_mapped {Q} (Err e) s f cases made d is = (e, refl, made e d (subst (λ r. IsErrAnd r (Q e)) is cases))
 
 -- a line that was cut off what remained
 pub record Cut (line after rest : List ℕ) : Type 0 where

@@ -1,3 +1,4 @@
 pub mod Entering
 pub mod Reading
+pub mod ReadsIn
 pub mod Tickets

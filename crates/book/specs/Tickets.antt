@@ -1,5 +1,5 @@
 -- What a ticket lets its holder write. Assumes nothing.
-use Rattle.std.specs.Prelude.{ℕ, true, cond, not, List, [], ◌∷◌, ◌++◌, Ok, Err, Result}
+use Rattle.std.specs.Prelude.{ℕ, true, cond, not, List, Ok, Err, Result}
 use Rattle.refusals.specs.declared.Refusal.{Refusal}
 use Rattle.refusals.specs.declared.Refusal.TheVariants.{NoSuchCue, CueEntered}
 use Rattle.history.specs.declared.Act.{Act}

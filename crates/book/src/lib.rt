@@ -9,7 +9,7 @@ mod tickets;
 
 use history::{Entry, has_ended, is_cue};
 use refusals::Refusal;
-pub use sheets::ReadFault;
+pub use sheets::{ReadFault, reads_in_stands};
 pub use tickets::{Receipt, Step, Ticket};
 
 // How many places a book uses at most.
@@ -62,7 +62,8 @@ impl<'a, K: Copy> Book<'a, K> {
         Ok(self.len + 1)
     }
 
-    // Accepts an entry and answers its place, or refuses it and writes nothing.
+    // Accepts an entry and answers its place, from 1, or refuses it (11, 12, 13) and writes
+    // nothing.
     pub fn enter(&mut self, entry: Entry<K>) -> Result<usize, Refusal>
         ensures answer { result ≡ entered (room self.old) (accepted self.old) entry.cue }
         ensures grows { accepted self.new ≡ grown result entry (accepted self.old) }

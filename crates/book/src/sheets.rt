@@ -2,6 +2,7 @@
 ghost use Rattle.std.specs.Prelude.{◌≡◌};
 ghost use Rattle.book.specs.Entering.{room, accepted, Lays};
 ghost use Rattle.book.specs.Reading.{next_entered, told, added, read_in};
+ghost use Rattle.book.specs.ReadsIn.{ReadsIn, ReadsInIsReadIn};
 
 use crate::Book;
 use items::Item;
@@ -15,11 +16,22 @@ pub struct ReadFault {
     pub layer: Layer,
 }
 
+// The fault of a line, by its number and what refused it.
+impl From<(usize, Layer)> for ReadFault {
+    ghost from_gives = { λ f r. r ≡ record { line = f.0; layer = f.1 } };
+
+    fn from((line, layer): (usize, Layer)) -> ReadFault {
+        ReadFault { line, layer }
+    }
+}
+
 impl<'a, K: Item> Book<'a, K> {
     // Enters the entry that a line says. A line without a byte says none.
     fn enter_line(&mut self, line: &[u8]) -> Result<(), Layer>
-        ensures answer { result ≡ told (next_entered K.Item.parsed (room self.old) (accepted self.old) line.now) }
-        ensures grows { accepted self.new ≡ added (accepted self.old) (next_entered K.Item.parsed (room self.old) (accepted self.old) line.now) }
+        ensures answer { result
+            ≡ told (next_entered K.Item.parsed (room self.old) (accepted self.old) line.now) }
+        ensures grows { accepted self.new ≡ added (accepted self.old)
+            (next_entered K.Item.parsed (room self.old) (accepted self.old) line.now) }
         ensures lays { Lays self.old self.new }
     {
         if let Some(entry) = read_line(line)? {
@@ -28,16 +40,28 @@ impl<'a, K: Item> Book<'a, K> {
         Ok(())
     }
 
-    // Enters the lines of a sheet in turn until one is refused, and answers how many there were.
+    // Enters the lines of a sheet in turn until one is refused, and answers how many there were,
+    // or the fault of the first line that is refused (1 to 4, 11 to 13); the lines before it stay
+    // entered.
     pub fn read_in(&mut self, sheet: &[u8]) -> Result<usize, ReadFault>
-        ensures answer { result ≡ (read_in K.Item.parsed (room self.old) (accepted self.old) sheet.now).answer }
-        ensures grows { accepted self.new ≡ (read_in K.Item.parsed (room self.old) (accepted self.old) sheet.now).entries }
+        ensures answer { result
+            ≡ (read_in K.Item.parsed (room self.old) (accepted self.old) sheet.now).answer }
+        ensures grows { accepted self.new
+            ≡ (read_in K.Item.parsed (room self.old) (accepted self.old) sheet.now).entries }
+        ensures reads { ReadsIn K.Item.parsed (room self.old) (accepted self.old) sheet.now
+            (record { answer = result; entries = accepted self.new }) }
         ensures lays { Lays self.old self.new }
     {
         for (i, line) in sheet.chunks(LINE).enumerate() {
-            self.enter_line(line)
-                .map_err(|layer| ReadFault { line: i + 1, layer })?;
+            if let Err(layer) = self.enter_line(line) {
+                return Err(ReadFault::from((i + 1, layer)));
+            }
         }
         Ok(sheet.len().div_ceil(LINE))
     }
 }
+
+// That the relation of reading in holds of what the equation gives, and of nothing else.
+pub fn reads_in_stands<K: Item>()
+    ensures { ReadsInIsReadIn K.Item.parsed }
+{}

@@ -1,9 +1,7 @@
--- A run with right answers is lawful. Assumes nothing.
-use Rattle.std.proofs.Common.{◌≡◌, ℕ, zero, suc, ◌<◌, ◌≤◌, Bool, List, [], ◌∷◌, ◌++◌, length, get_or, Some, None, Ok, Err, Option, Result, sym, refl, subst, append_assoc, append-nil, arith}
-use Rattle.orders.proofs.Leasts.{none_is_none}
+-- A run with right answers is lawful.
+use Rattle.std.proofs.Common.{◌≡◌, ℕ, zero, suc, ◌<◌, ◌≤◌, Bool, List, [], ◌∷◌, ◌++◌, length, get_or, Some, None, Ok, Err, Option, Result, sym, refl, ◌∙◌, subst, append_assoc, append-nil, arith}
 use Rattle.history.specs.declared.Entry.{Entry}
-use Rattle.history.specs.Entries.{committed}
-use Rattle.history.specs.Order.{keeps}
+use Rattle.history.specs.Order.{conflict_order, ConflictCycle}
 use Rattle.recovery.specs.declared.Class.{Class}
 use Rattle.recovery.specs.Classes.{class_number, class_of}
 use Rattle.recovery.proofs.ClassLaws.{class_never_rises}
@@ -20,21 +18,21 @@ use Rattle.runs.specs.declared.Call.TheVariants as call
 use Rattle.runs.specs.declared.cues.Cues.{Cues}
 use Rattle.runs.specs.declared.Failure.{Failure}
 use Rattle.runs.specs.declared.Failure.TheVariants as failure
-use Rattle.runs.specs.Answers.{cues_of, OrderShown, CycleShown, OrderRight, ViewsRight}
+use Rattle.runs.specs.Answers.{cues_of, IsOrderAnswer, IsViewsAnswer}
 use Rattle.runs.specs.Runs.{State, start, told, place_or, receipt_or, held, ticket_at, accepts, after, Right, AllRight, Lawful}
 
 module _ {K : Type 0} (alike : K → K → Bool) where
   -- what an order, a cycle or a class says of the entries; the other answers say nothing here
   abbrev Says : List (Entry K) → Result Answer Failure → Type 0
-  Says es (Ok (answer.Order c)) = OrderShown alike es (cues_of c)
-  Says es (Ok (answer.Cycle c)) = CycleShown alike es (cues_of c)
+  Says es (Ok (answer.Order c)) = conflict_order alike es ≡ Some (cues_of c)
+  Says es (Ok (answer.Cycle c)) = ConflictCycle alike es (cues_of c)
   Says es (Ok (answer.Class c)) = c ≡ class_of alike es
   Says es _ = Unit {0}
 
   -- an order cannot be shown after a cycle
   no_order_after_cycle : (es more : List (Entry K)) (c d : Cues) → Says es (Ok (answer.Cycle c)) → Says (es ++ more) (Ok (answer.Order d)) → ⊥
   no_order_after_cycle es more c d cycle shown =
-      none_is_none (committed (es ++ more)) (keeps alike (es ++ more)) (cycle_lasts_lem K alike es more (cues_of c) cycle.cycle) (cues_of d) shown.order shown.kept
+      let none = sym (cycle_lasts_lem K alike es more (cues_of c) cycle) ∙ shown in cc
 
   class_falls : (es more : List (Entry K)) (c d : Class) → Says es (Ok (answer.Class c)) → Says (es ++ more) (Ok (answer.Class d)) → class_number d ≤ class_number c
   class_falls es more c d is later = rw is (rw later (class_never_rises K alike es more))
@@ -48,22 +46,23 @@ module _ {K : Type 0} (alike : K → K → Bool) where
     held_says f h None = tt
     held_says f h (Some t) = h t
 
-    order_says : (a : Result Answer Failure) → OrderRight alike es a → Says es a
-    order_says (Ok (answer.Order c)) h = h
-    order_says (Ok (answer.Cycle c)) h = h
-    order_says _ h = absurd h
+    order_says : (cells bytes : ℕ) (a : Result Answer Failure) → IsOrderAnswer alike es cells bytes a → Says es a
+    order_says cells bytes (Ok (answer.Order c)) h = h.order
+    order_says cells bytes (Ok (answer.Cycle c)) h = h.right.0
+    order_says cells bytes (Err f) h = tt
+    order_says cells bytes _ h = absurd h
 
-    views_say : (a : Result Answer Failure) → ViewsRight alike es a → Says es a
-    views_say (Ok (answer.Order c)) h = absurd h
-    views_say (Ok (answer.Cycle c)) h = absurd h
-    views_say (Ok (answer.Class c)) h = absurd h
-    views_say _ h = tt
+    views_say : (cells : ℕ) (a : Result Answer Failure) → IsViewsAnswer alike es cells a → Says es a
+    views_say cells (Ok (answer.Order c)) h = absurd h
+    views_say cells (Ok (answer.Cycle c)) h = absurd h
+    views_say cells (Ok (answer.Class c)) h = absurd h
+    views_say cells _ h = tt
 
   module _ (parsed : List ℕ → Option K) (places : ℕ) where
     -- an answer that is right speaks of the entries so far
     right_says : (s : State K) (c : Call K) (a : Result Answer Failure) → Right alike parsed places s c a → Says s.entries a
     right_says s (call.Enter e) a h = rw h (told_says s.entries answer.Place failure.Refused (entered places s.entries e.cue) (λ p. tt))
-    right_says s (call.ReadIn sheet) a h = rw h (told_says s.entries answer.Lines failure.Fault (read_in parsed places s.entries sheet.now).answer (λ n. tt))
+    right_says s (call.ReadIn sheet) a h = rw h.0 (told_says s.entries answer.Lines failure.Fault (read_in parsed places s.entries sheet.now).answer (λ n. tt))
     right_says s (call.Begin n) a h = rw h (told_says s.entries (λ t. answer.Ticket _) failure.Refused (begun s.entries n) (λ t. tt))
     right_says s (call.Record n step) a h =
         let says = λ (t : Ticket). told_says s.entries answer.Place failure.Refused (entered places s.entries t.cue) (λ p. tt) in
@@ -71,9 +70,9 @@ module _ {K : Type 0} (alike : K → K → Bool) where
     right_says s (call.End n ending) a h =
         let says = λ (t : Ticket). told_says s.entries (λ p. answer.Receipt p ending) failure.Refused (entered places s.entries t.cue) (λ p. tt) in
         rw h (held_says s.entries (λ t. receipt_or ending (entered places s.entries t.cue)) says (ticket_at s.tickets n))
-    right_says s call.Class a h = rw h refl
-    right_says s call.Order a h = order_says s.entries a h
-    right_says s call.Views a h = views_say s.entries a h
+    right_says s call.Class a h = rw h.0 refl
+    right_says s (call.Order cells bytes) a h = order_says s.entries cells bytes a h
+    right_says s (call.Views cells) a h = views_say s.entries cells a h
     right_says s (call.Why i j) a h = rw h.0 (told_says s.entries answer.Why failure.Refused (why_answer alike s.entries i j) (λ w. tt))
 
     -- an answer of the run speaks of the entries so far and what was accepted after them

@@ -1,62 +1,57 @@
--- When an answer about entries is right, in the subject's words. Assumes nothing.
-use Rattle.std.specs.Prelude.{◌≡◌, ℕ, ◌<◌, ◌≤◌, Bool, true, ◌⊎◌, List, length, take, Some, None, Ok, Err, Result, ◌≢◌}
-use Rattle.refusals.specs.declared.Refusal.TheVariants.{ManyCues}
-use Rattle.orders.specs.Least.{Rearranges, Before}
+-- When an answer of a run about orders is right.
+--
+--   cues_of c                        == the cues that stand in the first cells
+--   IsOrderAnswer es cells bytes a   == a is right to answer order, for a list of so many cells
+--                                       and a strip of so many bytes
+--   IsViewsAnswer es cells a         == a is right to answer views, for a list of so many cells
+--   LentPast64                       == more than 64 cells, or bytes, make no difference
+use Rattle.std.specs.Prelude.{◌≡◌, ℕ, min, Bool, List, take, Some, None, Ok, Err, Option, Result}
 use Rattle.history.specs.declared.Entry.{Entry}
-use Rattle.history.specs.Order.{committed_cues, keeps, ConflictCycle}
-use Rattle.history.specs.Views.{committed_list, serial_list, SameView}
+use Rattle.history.specs.Order.{conflict_order}
+use Rattle.history.specs.Views.{view_order}
+use Rattle.history.specs.Answers.{Outcome, ordered, cyclic, order_in}
+use Rattle.history.specs.Answers.{AnswersOrder, ShownKeepsView, AnswersViews}
+use Rattle.serial.specs.OrderAnswer.{order_refusal}
+use Rattle.views.specs.Answer.{views_refusal}
 use Rattle.runs.specs.declared.Answer.{Answer}
 use Rattle.runs.specs.declared.Answer.TheVariants as answer
 use Rattle.runs.specs.declared.cues.Cues.{Cues}
 use Rattle.runs.specs.declared.Failure.{Failure}
 use Rattle.runs.specs.declared.Failure.TheVariants as failure
 
--- the cues that stand in the first cells
 abbrev pub cues_of : Cues → List ℕ
 cues_of c = take c.count c.list
 
 module _ {K : Type 0} (alike : K → K → Bool) (es : List (Entry K)) where
-  -- an order of the committed cues
-  abbrev pub Serial : List ℕ → Type 0
-  Serial o = Rearranges (committed_cues es) o
+  -- no refusal applies, and this is what there is to show
+  pub record OrderShown (cells bytes : ℕ) (shown : Outcome) : Type 0 where
+    pub taken : order_refusal es cells bytes ≡ None
+    pub order : conflict_order alike es ≡ order_in shown
+    pub right : AnswersOrder alike es shown
+    pub view : ShownKeepsView alike es shown
 
-  -- each read keeps its source, and each item its last write
-  abbrev pub Unseen : List ℕ → Type 0
-  Unseen o = SameView alike (committed_list es) (serial_list (committed_list es) o)
+  pub record ViewsShown (cells : ℕ) (o : Option (List ℕ)) : Type 0 where
+    pub taken : views_refusal es cells ≡ None
+    pub order : view_order alike es ≡ o
+    pub right : AnswersViews alike es o
 
-  -- an order that keeps all conflicting pairs, the first in dictionary order; it is view-equivalent too
-  pub record OrderShown (o : List ℕ) : Type 0 where
-    pub order : Serial o
-    pub kept : keeps alike es o ≡ true
-    pub first : (q : List ℕ) → Serial q → keeps alike es q ≡ true → (o ≡ q) ⊎ Before o q
-    pub unseen : Unseen o
+  -- a refusal is right exactly when it is the first that is met; an answer to another call never is
+  abbrev pub IsOrderAnswer : (cells bytes : ℕ) → Result Answer Failure → Type 0
+  IsOrderAnswer cells bytes (Ok (answer.Order c)) = OrderShown cells bytes (ordered (cues_of c))
+  IsOrderAnswer cells bytes (Ok (answer.Cycle c)) = OrderShown cells bytes (cyclic (cues_of c))
+  IsOrderAnswer cells bytes (Err (failure.Refused f)) = order_refusal es cells bytes ≡ Some f
+  IsOrderAnswer cells bytes _ = ⊥
 
-  -- no order keeps them, and a cycle says why
-  pub record CycleShown (c : List ℕ) : Type 0 where
-    pub none : (q : List ℕ) → Serial q → keeps alike es q ≢ true
-    pub cycle : ConflictCycle alike es c
+  abbrev pub IsViewsAnswer : ℕ → Result Answer Failure → Type 0
+  IsViewsAnswer cells (Ok (answer.Views (Some c))) = ViewsShown cells (Some (cues_of c))
+  IsViewsAnswer cells (Ok (answer.Views None)) = ViewsShown cells None
+  IsViewsAnswer cells (Err (failure.Refused f)) = views_refusal es cells ≡ Some f
+  IsViewsAnswer cells _ = ⊥
 
-  -- no other answer is right, and no refusal
-  abbrev pub OrderRight : Result Answer Failure → Type 0
-  OrderRight (Ok (answer.Order c)) = OrderShown (cues_of c)
-  OrderRight (Ok (answer.Cycle c)) = CycleShown (cues_of c)
-  OrderRight _ = ⊥
-
-  -- with no more than eight committed cues, a view-equivalent order, the first in dictionary order
-  pub record ViewsShown (o : List ℕ) : Type 0 where
-    pub few : length (committed_cues es) ≤ 8
-    pub order : Serial o
-    pub unseen : Unseen o
-    pub first : (q : List ℕ) → Serial q → Unseen q → (o ≡ q) ⊎ Before o q
-
-  -- or none is
-  pub record NoneShown : Type 0 where
-    pub few : length (committed_cues es) ≤ 8
-    pub none : (q : List ℕ) → Serial q → Unseen q → ⊥
-
-  -- one refusal may be right: that there are more
-  abbrev pub ViewsRight : Result Answer Failure → Type 0
-  ViewsRight (Ok (answer.Views (Some c))) = ViewsShown (cues_of c)
-  ViewsRight (Ok (answer.Views None)) = NoneShown
-  ViewsRight (Err (failure.Refused f)) = (f ≡ ManyCues) × (8 < length (committed_cues es))
-  ViewsRight _ = ⊥
+-- a list of more than 64 cells is as good as one of 64, and a strip of more than 64 bytes
+pub record LentPast64 (K : Type 0) : Type 0 where
+  pub order :
+      (es : List (Entry K)) (cells bytes : ℕ) →
+      order_refusal es (min cells 64) (min bytes 64) ≡ order_refusal es cells bytes
+  pub views :
+      (es : List (Entry K)) (cells : ℕ) → views_refusal es (min cells 64) ≡ views_refusal es cells

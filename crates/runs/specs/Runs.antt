@@ -6,12 +6,14 @@ use Rattle.history.specs.declared.Entry.{Entry}
 use Rattle.history.specs.Endings.{act_of}
 use Rattle.recovery.specs.declared.Class.{Class}
 use Rattle.recovery.specs.Classes.{class_number, class_of}
+use Rattle.recovery.specs.ReadsFrom.{IsClass}
 use Rattle.serial.specs.declared.Pair.{Pair}
 use Rattle.serial.specs.Why.{why_answer, Tells}
 use Rattle.book.specs.declared.sheets.ReadFault.{ReadFault}
 use Rattle.book.specs.declared.tickets.Ticket.{Ticket}
 use Rattle.book.specs.Entering.{entered}
 use Rattle.book.specs.Reading.{read_in}
+use Rattle.book.specs.ReadsIn.{ReadsIn}
 use Rattle.book.specs.Tickets.{begun, stepped, under}
 use Rattle.runs.specs.declared.Answer.{Answer}
 use Rattle.runs.specs.declared.Answer.TheVariants as answer
@@ -22,7 +24,7 @@ use Rattle.runs.specs.declared.Failure.{Failure}
 use Rattle.runs.specs.declared.Failure.TheVariants as failure
 use Rattle.runs.specs.declared.Want.{Want}
 use Rattle.runs.specs.declared.Want.TheVariants as want
-use Rattle.runs.specs.Answers.{OrderRight, ViewsRight}
+use Rattle.runs.specs.Answers.{IsOrderAnswer, IsViewsAnswer}
 
 -- a ticket with that number was given
 abbrev pub is_given : ℕ → ℕ → Bool
@@ -115,13 +117,17 @@ module _ {K : Type 0} (alike : K → K → Bool) (parsed : List ℕ → Option K
   -- the answer to a call speaks of the entries accepted before it, and is a refusal exactly when its condition is the first met
   abbrev pub Right : State K → Call K → Result Answer Failure → Type 0
   Right s (call.Enter e) a = a ≡ place_or (entered places s.entries e.cue)
-  Right s (call.ReadIn sheet) a = a ≡ lines_or (read_in parsed places s.entries sheet.now).answer
+  Right s (call.ReadIn sheet) a =
+      (a ≡ lines_or (read_in parsed places s.entries sheet.now).answer)
+      × ReadsIn parsed places s.entries sheet.now (read_in parsed places s.entries sheet.now)
   Right s (call.Begin n) a = a ≡ ticket_or (length s.tickets + 1) (begun s.entries n)
   Right s (call.Record n step) a = a ≡ held (λ t. place_or (entered places s.entries t.cue)) (ticket_at s.tickets n)
   Right s (call.End n ending) a = a ≡ held (λ t. receipt_or ending (entered places s.entries t.cue)) (ticket_at s.tickets n)
-  Right s call.Class a = a ≡ Ok (answer.Class (class_of alike s.entries))
-  Right s call.Order a = OrderRight alike s.entries a
-  Right s call.Views a = ViewsRight alike s.entries a
+  Right s call.Class a =
+      (a ≡ Ok (answer.Class (class_of alike s.entries)))
+      × IsClass alike s.entries (class_of alike s.entries)
+  Right s (call.Order cells bytes) a = IsOrderAnswer alike s.entries cells bytes a
+  Right s (call.Views cells) a = IsViewsAnswer alike s.entries cells a
   Right s (call.Why i j) a = (a ≡ why_or (why_answer alike s.entries i j)) × Tells alike s.entries i j (why_answer alike s.entries i j)
 
   -- each answer is right, in turn

@@ -4,7 +4,7 @@
 ghost use Rattle.std.specs.Prelude.{◌≡◌, ◌<◌, min, length};
 ghost use Rattle.book.specs.Entering.{room, accepted, Lays};
 ghost use Rattle.runs.specs.declared.Failure.TheVariants.{Refused, Fault};
-ghost use Rattle.runs.specs.Answers.{OrderRight, ViewsRight};
+ghost use Rattle.runs.specs.Answers.{IsOrderAnswer, IsViewsAnswer, LentPast64};
 ghost use Rattle.runs.specs.Holding.{so_far, Keeps};
 ghost use Rattle.runs.specs.Runs.{Right, after, wanted, Ran};
 
@@ -27,12 +27,19 @@ use std::fmt;
 pub enum Call<'a, K> {
     Enter(Entry<K>),
     ReadIn(&'a [u8]),
+    // A ticket for this cue.
     Begin(u32),
+    // Through the ticket with this number.
     Record(usize, Step<K>),
+    // Ends the cue of the ticket with this number.
     End(usize, Ending),
     Class,
-    Order,
-    Views,
+    // With a list of so many cells and a strip of so many bytes; of each, more than 64 are as good
+    // as 64.
+    Order(usize, usize),
+    // With a list of so many cells; more than 64 are as good as 64.
+    Views(usize),
+    // Which entries put the first cue before the second.
     Why(u32, u32),
 }
 
@@ -90,6 +97,11 @@ pub enum Want {
 }
 
 impl fmt::Display for Want {
+    ghost use Rattle.std.specs.Prelude.{Some};
+    ghost use Rattle.runs.specs.Wants.{want_words};
+
+    ghost output = { λ w. Some (want_words w) };
+
     fn fmt<W: fmt::Write>(&self, f: &mut fmt::Formatter<W>) -> fmt::Result {
         f.write_str(match self {
             Want::Answers => "nothing is performed: there is not a cell for each answer",
@@ -100,24 +112,27 @@ impl fmt::Display for Want {
     }
 }
 
-// Shows the order, or the cycle.
-fn order<K: Item>(book: &Book<'_, K>) -> Result<Answer, Failure>
-    ensures { OrderRight K.Item.alike (accepted book.now) result }
+// Shows the order, or the cycle, with a list of so many cells and a strip of so many bytes.
+fn order<K: Item>(book: &Book<'_, K>, cells: usize, bytes: usize) -> Result<Answer, Failure>
+    ensures { IsOrderAnswer K.Item.alike (accepted book.now) cells bytes result }
 {
     let mut list = [0u32; 64];
     let mut strip = [0u8; 64];
-    Ok(match book.order(&mut list, &mut strip)? {
+    let found = book.order(&mut list[..cells.min(64)], &mut strip[..bytes.min(64)])?;
+    Ok(match found {
         Found::Order(count) => Answer::Order(Cues { list, count }),
         Found::Cycle(count) => Answer::Cycle(Cues { list, count }),
     })
 }
 
-// By a match, since the closure of a `map` would not know how many cells an order has.
-fn views<K: Item>(book: &Book<'_, K>) -> Result<Answer, Failure>
-    ensures { ViewsRight K.Item.alike (accepted book.now) result }
+// Shows the view-equivalent order, with a list of so many cells. By a match, since the closure of a
+// `map` would not know how many cells an order has.
+fn views<K: Item>(book: &Book<'_, K>, cells: usize) -> Result<Answer, Failure>
+    ensures { IsViewsAnswer K.Item.alike (accepted book.now) cells result }
 {
     let mut list = [0u32; 64];
-    Ok(Answer::Views(match book.views(&mut list)? {
+    let found = book.views(&mut list[..cells.min(64)])?;
+    Ok(Answer::Views(match found {
         Some(count) => Some(Cues { list, count }),
         None => None,
     }))
@@ -131,8 +146,10 @@ fn perform_one<K: Item>(
     call: &Call<'_, K>,
 ) -> Result<Answer, Failure>
     requires { tickets.old.given < length tickets.old.cells.now }
-    ensures right { Right K.Item.alike K.Item.parsed (room book.old) (so_far book.old tickets.old) call.now result }
-    ensures after { so_far book.new tickets.new ≡ after K.Item.parsed (room book.old) (so_far book.old tickets.old) call.now }
+    ensures right { let before = so_far book.old tickets.old in
+        Right K.Item.alike K.Item.parsed (room book.old) before call.now result }
+    ensures after { let before = so_far book.old tickets.old in
+        so_far book.new tickets.new ≡ after K.Item.parsed (room book.old) before call.now }
     ensures lays { Lays book.old book.new }
     ensures keeps { Keeps tickets.old tickets.new }
 {
@@ -155,13 +172,16 @@ fn perform_one<K: Item>(
             }
         }
         Call::Class => Ok(Answer::Class(book.class())),
-        Call::Order => order(book),
-        Call::Views => views(book),
+        Call::Order(cells, bytes) => order(book, *cells, *bytes),
+        Call::Views(cells) => views(book, *cells),
         Call::Why(i, j) => Ok(Answer::Why(book.why(*i, *j)?)),
     }
 }
 
-// Lays a new book out in the memory and performs the calls in turn; the answers stand in the first cells of `answers`.
+// Lays a new book out in the memory, of which it uses at most 4,096 places, and performs the
+// calls in turn; the answers stand in the first cells of `answers`. A cell of `answers` and one
+// of `tickets` is wanted for each call: where there are fewer, it says which, and nothing is
+// performed or written.
 pub fn perform<K: Item>(
     memory: &mut [Entry<K>],
     calls: &[Call<'_, K>],
@@ -169,7 +189,9 @@ pub fn perform<K: Item>(
     tickets: &mut [Option<Ticket>],
 ) -> Result<(), Want>
     ensures wants { result ≡ wanted (length calls.now) (length answers.old) (length tickets.old) }
-    ensures runs { Ran K.Item.alike K.Item.parsed (min (length memory.old) 4096) calls.now answers.old answers.new tickets.old tickets.new memory.old memory.new result }
+    ensures runs { let places = min (length memory.old) 4096 in
+        Ran K.Item.alike K.Item.parsed places calls.now answers.old answers.new
+        tickets.old tickets.new memory.old memory.new result }
 {
     if answers.len() < calls.len() {
         return Err(Want::Answers);
@@ -185,3 +207,8 @@ pub fn perform<K: Item>(
     }
     Ok(())
 }
+
+// That a list of more than 64 cells, or a strip of more than 64 bytes, makes no difference.
+pub fn lent_past_64<K>()
+    ensures { LentPast64 K }
+{}

@@ -1,5 +1,5 @@
--- The pair that is found is the first. Assumes nothing.
-use Rattle.std.proofs.Common.{◌≡◌, ℕ, zero, suc, ◌+◌, ◌-◌, ◌<◌, ◌≤◌, Bool, true, false, cond, eqb, ◌⊎◌, List, [], ◌∷◌, length, get_or, Some, None, Ok, Err, Option, Result, sym, refl, ap, subst, inl, inr, arith}
+-- The pair that is found is the first.
+use Rattle.std.proofs.Common.{◌≡◌, ℕ, zero, suc, ◌+◌, ◌-◌, ◌<◌, ◌≤◌, Bool, true, false, cond, eqb, ◌⊎◌, List, [], ◌∷◌, length, get_or, Some, None, Ok, Err, Option, Result, sym, refl, ap, ◌∙◌, subst, inl, inr, arith}
 use Rattle.std.proofs.lemmas.Bool.{and_from, and_parts, both_ways, eq-eqb, eqb-true}
 use Rattle.lists.specs.Lists.{or_else}
 use Rattle.refusals.specs.declared.Refusal.{Refusal}
@@ -7,7 +7,9 @@ use Rattle.refusals.specs.declared.Refusal.TheVariants.{CuePair}
 use Rattle.history.specs.declared.Entry.{Entry}
 use Rattle.history.specs.Conflicts.{conflict}
 use Rattle.serial.specs.declared.Pair.{Pair}
-use Rattle.serial.specs.Why.{two_cues, answers, pair_with, pair_from, why_of, why_answer, Before, Tells}
+use Rattle.serial.specs.Why.{two_cues, answers, pair_with, pair_from, why_of, why_answer, Tells}
+use Rattle.history.specs.Order.{PutsBefore}
+use Rattle.std.proofs.lemmas.Option.{slice_get_within, get_or_from_slice_get, slice_get-get_or}
 
 module _ {K : Type 0} (alike : K → K → Bool) (i j : ℕ) where
   -- the entry with index k answers x
@@ -148,22 +150,54 @@ module _ {K : Type 0} (alike : K → K → Bool) (i j : ℕ) where
       (first_is (n + 1) xs)
 
   -- places count from 1, indices from 0
-  puts_before : (es : List (Entry K)) (p q : ℕ) → Before alike es i j p q → Puts es (p - 1) (q - 1)
-  puts_before es p q h = record { order = omega (arith, h.starts, h.order); within = omega (arith, h.starts, h.order, h.ends); earlier = h.earlier; later = h.later; clash = h.clash }
+  puts_before : (es : List (Entry K)) (p q : ℕ) → PutsBefore alike es i j p q → (1 ≤ p) × (1 ≤ q) × Puts es (p - 1) (q - 1)
+  puts_before es zero q h = let z = h.first in cc
+  puts_before es (suc a) zero h = let z = h.second in cc
+  puts_before es (suc a) (suc b) h =
+      let x : (d : Entry K) → get_or es a d ≡ h.earlier = λ d. get_or_from_slice_get es a h.earlier d h.first in
+      let y : (d : Entry K) → get_or es b d ≡ h.later = λ d. get_or_from_slice_get es b h.later d h.second in
+      let ea : a ≡ suc a - 1 = omega arith in
+      let eb : b ≡ suc b - 1 = omega arith in
+      let puts : Puts es a b =
+      record {
+        order = omega (arith, h.before);
+        within = slice_get_within es b h.later h.second;
+        earlier = λ d. ap (λ (e : Entry K). e.cue) (x d) ∙ h.from;
+        later = λ d. ap (λ (e : Entry K). e.cue) (y d) ∙ h.to;
+        clash = λ d. (λ k. conflict alike (x d k) (y d k)) ∙ h.clash;
+      } in
+      (omega arith, omega arith, subst (λ m. Puts es m (suc b - 1)) ea (subst (λ m. Puts es a m) eb puts))
 
-  before_puts : (es : List (Entry K)) (p q a b : ℕ) → p ≡ 1 + a → q ≡ 1 + b → Puts es a b → Before alike es i j p q
-  before_puts es p q a b ep eq r =
-      let ea : a ≡ p - 1 = omega (arith, ep) in
-      let eb : b ≡ q - 1 = omega (arith, eq) in
-      let s = subst (λ m. Puts es m (q - 1)) ea (subst (λ m. Puts es a m) eb r) in
-      record { starts = omega (arith, ep); order = omega (arith, r.order, ep, eq); ends = omega (arith, r.within, eq); earlier = s.earlier; later = s.later; clash = s.clash }
+  before_puts : (es : List (Entry K)) (p q a b : ℕ) → p ≡ 1 + a → q ≡ 1 + b → Puts es a b → PutsBefore alike es i j p q
+  before_puts es p q a b ep eq r = subst (λ m. PutsBefore alike es i j m q) (sym sp) (subst (λ m. PutsBefore alike es i j (suc a) m) (sym sq) (at es r))
+    where
+      sp : p ≡ suc a
+      sp = omega (arith, ep)
+
+      sq : q ≡ suc b
+      sq = omega (arith, eq)
+
+      at : (fs : List (Entry K)) → Puts fs a b → PutsBefore alike fs i j (suc a) (suc b)
+      at [] s = absurd (omega (arith, s.within))
+      at (d ∷ fs) s =
+          record {
+            earlier = get_or (d ∷ fs) a d;
+            later = get_or (d ∷ fs) b d;
+            first = slice_get-get_or (d ∷ fs) a d (omega (arith, s.order, s.within));
+            second = slice_get-get_or (d ∷ fs) b d s.within;
+            before = omega (arith, s.order);
+            from = s.earlier d;
+            to = s.later d;
+            clash = s.clash d;
+          }
 
   -- a pair of places is later where its indices are
-  later_place : (es : List (Entry K)) (w : Pair) (h : First 1 es w) (p q : ℕ) → Before alike es i j p q → (w.first < p) ⊎ ((w.first ≡ p) × (w.second ≤ q))
+  later_place : (es : List (Entry K)) (w : Pair) (h : First 1 es w) (p q : ℕ) → PutsBefore alike es i j p q → (w.first < p) ⊎ ((w.first ≡ p) × (w.second ≤ q))
   later_place es w h p q r =
-      elim (h.least (p - 1) (q - 1) (puts_before es p q r)) [
+      let puts = puts_before es p q r in
+      elim (h.least (p - 1) (q - 1) puts.2) [
         | inl k ↦ inl (omega (arith, h.first, k))
-        | inr k ↦ inr (omega (arith, h.first, k.0, r.starts), omega (arith, h.second, k.1, r.starts, r.order))
+        | inr k ↦ inr (omega (arith, h.first, k.0, puts.0), omega (arith, h.second, k.1, puts.1))
       ]
 
   tells_of : (es : List (Entry K)) (o : Option Pair) → FirstOr 1 es o → Tells alike es i j (Ok o)
@@ -171,12 +205,12 @@ module _ {K : Type 0} (alike : K → K → Bool) (i j : ℕ) where
       record {
         found = λ w e. absurd (let z : ◌≡◌ {A = ℕ} 0 1 = cc in omega arith);
         least = λ w e. absurd (let z : ◌≡◌ {A = ℕ} 0 1 = cc in omega arith);
-        none = λ e p q r. h (p - 1) (q - 1) (puts_before es p q r);
+        none = λ e p q r. h (p - 1) (q - 1) (puts_before es p q r).2;
       }
   tells_of es (Some v) h =
       record {
-        found = λ w e. let same : v ≡ w = cc in subst (λ (u : Pair). Before alike es i j u.first u.second) same (before_puts es v.first v.second h.a h.b h.first h.second h.puts);
-        least = λ w e. let same : v ≡ w = cc in subst (λ (u : Pair). (p q : ℕ) → Before alike es i j p q → (u.first < p) ⊎ ((u.first ≡ p) × (u.second ≤ q))) same (later_place es v h);
+        found = λ w e. let same : v ≡ w = cc in subst (λ (u : Pair). PutsBefore alike es i j u.first u.second) same (before_puts es v.first v.second h.a h.b h.first h.second h.puts);
+        least = λ w e. let same : v ≡ w = cc in subst (λ (u : Pair). (p q : ℕ) → PutsBefore alike es i j p q → (u.first < p) ⊎ ((u.first ≡ p) × (u.second ≤ q))) same (later_place es v h);
         none = λ e. absurd (let z : ◌≡◌ {A = ℕ} 0 1 = cc in omega arith);
       }
 

@@ -1,4 +1,4 @@
--- The edges between committed cues and the entries ask the same of an order. Assumes nothing.
+-- The edges between committed cues and the entries ask the same of an order.
 use Rattle.std.proofs.Common.{◌≡◌, ℕ, ◌+◌, ◌-◌, ◌<◌, ◌≤◌, Bool, true, not, ◌&&◌, ◌||◌, eqb, List, length, get_or, sym, refl, ap, ◌∙◌, inl, inr, arith}
 use Rattle.std.proofs.lemmas.Bool.{and_from, and_parts, both_ways, cases_Bool, cases_lt, eq-eqb, eqb-true, not-true, not_from_false, or_cases, or_left, or_right}
 use Rattle.lists.specs.Lists.{has}
@@ -11,6 +11,7 @@ use Rattle.orders.specs.Least.{Rearranges}
 use Rattle.orders.proofs.Among.{among_same}
 use Rattle.history.specs.Order.{committed_cues, binds, keeps, conflict_order, joins, arrow, ConflictCycle}
 use Rattle.history.proofs.Committed.{same_tests, has_committed}
+use Rattle.history.proofs.Keeping.{arrow_must}
 use Rattle.lists.proofs.Pairs.{pair_both, pair_one, pair_from_lem}
 use Rattle.orders.proofs.Precedence.{rearranged_has, rearranged_distinct}
 use Rattle.serial.proofs.Following.{follows_ahead, ahead_follows}
@@ -97,6 +98,6 @@ module _ {K : Type 0} (alike : K → K → Bool) (es : List (Entry K)) where
           two = two;
           members = members;
           distinct = cycle.distinct;
-          steps = λ i h. sym (same (get_or c i 0) (get_or c (i + 1) 0) (members i (omega arith)) (members (i + 1) h)) ∙ cycle.steps i h;
-          closes = closes;
+          steps = λ i h. arrow_must alike es (get_or c i 0) (get_or c (i + 1) 0) (sym (same (get_or c i 0) (get_or c (i + 1) 0) (members i (omega arith)) (members (i + 1) h)) ∙ cycle.steps i h);
+          closes = arrow_must alike es (get_or c (length c - 1) 0) (get_or c 0 0) closes;
         }

@@ -1,4 +1,4 @@
--- A cycle lasts. Assumes nothing.
+-- A cycle lasts.
 use Rattle.std.proofs.Common.{◌≡◌, ℕ, zero, suc, ◌+◌, ◌-◌, ◌<◌, ◌≤◌, Bool, true, List, ◌++◌, length, get_or, Some, None, Option, sym, refl, ap, ◌∙◌, arith}
 use Rattle.std.proofs.lemmas.Bool.{and_from, and_parts}
 use Rattle.lists.specs.Lists.{some}
@@ -7,7 +7,8 @@ use Rattle.lists.proofs.Some.{some_front}
 use Rattle.history.specs.declared.Entry.{Entry}
 use Rattle.history.specs.Entries.{is_cue, is_commit, by, committed}
 use Rattle.orders.proofs.Leasts.{first_is_least}
-use Rattle.history.specs.Order.{committed_cues, keeps, conflict_order, joins, arrow, ConflictCycle, CycleLasts}
+use Rattle.history.specs.Order.{committed_cues, keeps, conflict_order, joins, MustPrecede, ConflictCycle, CycleLasts}
+use Rattle.history.proofs.Keeping.{must_arrow}
 use Rattle.serial.proofs.Kept.{keeps_ahead}
 use Rattle.lists.proofs.Pairs.{pair_front}
 use Rattle.orders.specs.Least.{Distinct}
@@ -41,10 +42,10 @@ module _ {K : Type 0} (alike : K → K → Bool) (es more : List (Entry K)) (c :
       let l = first_is_least (committed (es ++ more)) (keeps alike (es ++ more)) o e in
       let two : 2 ≤ length c = cycle.two in
       let member : (i : ℕ) → i < length c → committed (es ++ more) (get_or c i 0) ≡ true = λ i h. committed_more es more (get_or c i 0) (cycle.members i h) in
-      let ahead : (i j : ℕ) → i < length c → j < length c → arrow alike es (get_or c i 0) (get_or c j 0) ≡ true → precedes (get_or c i 0) (get_or c j 0) o ≡ true =
+      let ahead : (i j : ℕ) → i < length c → j < length c → MustPrecede alike es (get_or c i 0) (get_or c j 0) → precedes (get_or c i 0) (get_or c j 0) o ≡ true =
       λ i j hi hj a.
       keeps_ahead alike (es ++ more) o l.passes (get_or c i 0) (get_or c j 0) (member i hi) (member j hj)
-      (pair_front (joins alike (get_or c i 0) (get_or c j 0)) es more a) in
+      (pair_front (joins alike (get_or c i 0) (get_or c j 0)) es more (must_arrow alike es (get_or c i 0) (get_or c j 0) a)) in
       absurd
       (never_round c o (rearranged_distinct (committed_cues (es ++ more)) o l.order) two
       (λ i h. ahead i (i + 1) (omega arith) h (cycle.steps i h))

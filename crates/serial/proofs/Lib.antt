@@ -4,4 +4,4 @@ pub mod Kept
 pub mod Lasting
 pub mod Drawing
 pub mod Answered
-pub mod Shown
+pub mod Cells

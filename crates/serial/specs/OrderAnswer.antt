@@ -1,43 +1,51 @@
--- What the search for an order answers and leaves. Assumes nothing.
-use Rattle.std.specs.Prelude.{◌≡◌, ℕ, ◌≤◌, Bool, true, cond, List, length, take, drop, Some, None, Ok, Err, Option, Result, nat_lt}
+-- What the search for an order answers, and what it leaves in the list that is lent.
+--
+--   order_refusal es cells bytes   == the first refusal that is met, for a list of so many cells
+--                                     and a strip of so many bytes
+--   order_answer es list strip c   == the answer, with the cycle c where there is no order
+--   order_list es list strip c     == the list after it
+--   cycle_in answer list'          == the cycle in the first cells, where the answer is one
+--   shown_in found list'           == what the first cells show
+use Rattle.std.specs.Prelude.{ℕ, Bool, List, [], ◌++◌, length, take, drop, Some, None, Ok, Err}
+use Rattle.std.specs.Prelude.{Option, Result}
 use Rattle.refusals.specs.declared.Refusal.{Refusal}
-use Rattle.refusals.specs.declared.Refusal.TheVariants.{ListShort, StripShort}
 use Rattle.history.specs.declared.Entry.{Entry}
 use Rattle.graphs.specs.declared.Found.{Found}
 use Rattle.graphs.specs.declared.Found.TheVariants.{Order, Cycle}
-use Rattle.history.specs.Order.{committed_cues, conflict_order, ConflictCycle}
-use Rattle.history.specs.Views.{view_equivalent}
+use Rattle.graphs.specs.Answer.{search_refusal}
+use Rattle.history.specs.Entries.{committed}
+use Rattle.history.specs.Order.{conflict_order}
+use Rattle.history.specs.Answers.{Outcome, ordered, cyclic}
 
-module _ {K : Type 0} where
-  -- the first refusal that is met, for a list and a strip of these lengths
-  abbrev pub order_refusal : List (Entry K) → (cells bytes : ℕ) → Option Refusal
-  order_refusal es cells bytes = cond (nat_lt bytes 64) (Some StripShort) (cond (nat_lt cells (length (committed_cues es))) (Some ListShort) None)
+abbrev pub order_refusal : {K : Type 0} → List (Entry K) → (cells bytes : ℕ) → Option Refusal
+order_refusal es cells bytes = search_refusal (committed es) cells bytes
 
-module _ {K : Type 0} (alike : K → K → Bool) where
-  -- the first n cells are the order
-  pub record OrderFound (es : List (Entry K)) (list list' : List ℕ) (n : ℕ) : Type 0 where
-    pub all : n ≡ length (committed_cues es)
-    pub first : conflict_order alike es ≡ Some (take n list')
-    pub rest : drop n list' ≡ drop n list
+-- the refusal, or the length of the order or else of the cycle
+abbrev pub answer_by : Option Refusal → Option (List ℕ) → List ℕ → Result Found Refusal
+answer_by (Some e) o c = Err e
+answer_by None (Some o) c = Ok (Order (length o))
+answer_by None None c = Ok (Cycle (length c))
 
-  -- there is no order, and the first n cells are a cycle
-  pub record CycleFound (es : List (Entry K)) (list list' : List ℕ) (n : ℕ) : Type 0 where
-    pub none : conflict_order alike es ≡ None
-    pub fits : n ≤ length list
-    pub cycle : ConflictCycle alike es (take n list')
-    pub rest : drop n list' ≡ drop n list
+-- the order or else the cycle fills the first cells; on a refusal all are as they were
+abbrev pub list_by : Option Refusal → Option (List ℕ) → (c list : List ℕ) → List ℕ
+list_by (Some e) o c list = list
+list_by None (Some o) c list = o ++ drop (length o) list
+list_by None None c list = c ++ drop (length c) list
 
-  abbrev pub OrderOrCycle : (es : List (Entry K)) (list list' : List ℕ) → Found → Type 0
-  OrderOrCycle es list list' (Order n) = OrderFound es list list' n
-  OrderOrCycle es list list' (Cycle n) = CycleFound es list list' n
+abbrev pub cycle_in : Result Found Refusal → List ℕ → List ℕ
+cycle_in (Ok (Order n)) list' = []
+cycle_in (Ok (Cycle n)) list' = take n list'
+cycle_in (Err e) list' = []
 
-  -- the list after the answer: an order, a cycle, or as it was
-  abbrev pub OrderLists : (es : List (Entry K)) (list list' : List ℕ) → Result Found Refusal → Type 0
-  OrderLists es list list' (Ok f) = OrderOrCycle es list list' f
-  OrderLists es list list' (Err e) = list' ≡ list
+abbrev pub shown_in : Found → List ℕ → Outcome
+shown_in (Order n) list' = ordered (take n list')
+shown_in (Cycle n) list' = cyclic (take n list')
 
-  -- an order that is shown keeps what readers and the final state can tell
-  abbrev pub ShownView : (es : List (Entry K)) (list' : List ℕ) → Result Found Refusal → Type 0
-  ShownView es list' (Ok (Order n)) = view_equivalent alike es (take n list') ≡ true
-  ShownView es list' (Ok (Cycle n)) = Unit {0}
-  ShownView es list' (Err e) = Unit {0}
+module _ {K : Type 0} (alike : K → K → Bool) (es : List (Entry K)) where
+  abbrev pub order_answer : (list strip c : List ℕ) → Result Found Refusal
+  order_answer list strip c =
+      answer_by (order_refusal es (length list) (length strip)) (conflict_order alike es) c
+
+  abbrev pub order_list : (list strip c : List ℕ) → List ℕ
+  order_list list strip c =
+      list_by (order_refusal es (length list) (length strip)) (conflict_order alike es) c list

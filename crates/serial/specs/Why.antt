@@ -1,16 +1,14 @@
--- Which two entries put one cue before another. Places count from 1. Assumes nothing.
-use Rattle.std.specs.Prelude.{◌≡◌, ℕ, ◌+◌, ◌-◌, ◌<◌, ◌≤◌, Bool, true, cond, not, ◌&&◌, ◌⊎◌, List, [], ◌∷◌, length, Some, None, Ok, Err, Option, Result, ◌==◌, slice_index_or}
+-- Which two entries put one cue before another. Places count from 1.
+use Rattle.std.specs.Prelude.{◌≡◌, ℕ, ◌+◌, ◌<◌, ◌≤◌, Bool, cond, not, ◌&&◌, ◌⊎◌, List, [], ◌∷◌}
+use Rattle.std.specs.Prelude.{Some, None, Ok, Err, Option, Result, ◌==◌}
 use Rattle.lists.specs.Lists.{or_else}
 use Rattle.refusals.specs.declared.Refusal.{Refusal}
 use Rattle.refusals.specs.declared.Refusal.TheVariants.{CuePair}
 use Rattle.history.specs.declared.Entry.{Entry}
 use Rattle.history.specs.Conflicts.{conflict}
 use Rattle.history.specs.Entries.{is_cue}
+use Rattle.history.specs.Order.{PutsBefore}
 use Rattle.serial.specs.declared.Pair.{Pair}
-
--- the entry at place p, or d where there is none
-abbrev pub entry_at : {K : Type 0} → List (Entry K) → ℕ → Entry K → Entry K
-entry_at es p d = slice_index_or es (p - 1) d
 
 abbrev pub two_cues : ℕ → ℕ → Bool
 two_cues i j = is_cue i && is_cue j && not (i == j)
@@ -36,17 +34,11 @@ module _ {K : Type 0} (alike : K → K → Bool) where
   abbrev pub why_answer : List (Entry K) → ℕ → ℕ → Result (Option Pair) Refusal
   why_answer es i j = cond (two_cues i j) (Ok (why_of es i j)) (Err CuePair)
 
-  -- the entries at places p and q put cue i before cue j
-  pub record Before (es : List (Entry K)) (i j p q : ℕ) : Type 0 where
-    pub starts : 1 ≤ p
-    pub order : p < q
-    pub ends : q ≤ length es
-    pub earlier : (d : Entry K) → (entry_at es p d).cue ≡ i
-    pub later : (d : Entry K) → (entry_at es q d).cue ≡ j
-    pub clash : (d : Entry K) → conflict alike (entry_at es p d) (entry_at es q d) ≡ true
-
-  -- places that are answered are such places, and all others come later; where none are answered there are none
+  -- places that are answered put cue i before cue j, and all others that do come later; where none
+  -- are answered there are none
   pub record Tells (es : List (Entry K)) (i j : ℕ) (r : Result (Option Pair) Refusal) : Type 0 where
-    pub found : (w : Pair) → r ≡ Ok (Some w) → Before es i j w.first w.second
-    pub least : (w : Pair) → r ≡ Ok (Some w) → (p q : ℕ) → Before es i j p q → (w.first < p) ⊎ ((w.first ≡ p) × (w.second ≤ q))
-    pub none : r ≡ Ok None → (p q : ℕ) → Before es i j p q → ⊥
+    pub found : (w : Pair) → r ≡ Ok (Some w) → PutsBefore alike es i j w.first w.second
+    pub least :
+        (w : Pair) → r ≡ Ok (Some w) → (p q : ℕ) → PutsBefore alike es i j p q →
+        (w.first < p) ⊎ ((w.first ≡ p) × (w.second ≤ q))
+    pub none : r ≡ Ok None → (p q : ℕ) → PutsBefore alike es i j p q → ⊥

@@ -1,10 +1,11 @@
 // Questions about the order that conflicts put cues in.
 #![tactic(auto)]
 
-ghost use Rattle.std.specs.Prelude.{◌≡◌, length};
-ghost use Rattle.graphs.specs.Answer.{refusal_in, strip_after};
+ghost use Rattle.std.specs.Prelude.{◌≡◌, IfOk};
+ghost use Rattle.graphs.specs.Answer.{strip_after};
 ghost use Rattle.history.specs.Order.{CycleLasts};
-ghost use Rattle.serial.specs.OrderAnswer.{order_refusal, OrderLists, ShownView};
+ghost use Rattle.serial.specs.OrderAnswer.{cycle_in, order_answer, order_list, shown_in};
+ghost use Rattle.history.specs.Answers.{AnswersOrder, ShownKeepsView};
 ghost use Rattle.serial.specs.Why.{two_cues, why_of, why_answer, Tells};
 
 use arrows::conflict_graph;
@@ -50,7 +51,9 @@ fn first_pair<K: Item>(entries: &[Entry<K>], i: u32, j: u32) -> Option<Pair>
     None
 }
 
-// The places of the entries that put cue `i` before cue `j`, committed or not.
+// The first two places, from 1, of conflicting entries, of cue `i` and then of cue `j`, committed
+// or not; `None` where there are none. Refused by 24 for a number outside 1 to 64 and for equal
+// numbers.
 pub fn why<K: Item>(entries: &[Entry<K>], i: u32, j: u32) -> Result<Option<Pair>, Refusal>
     ensures answer { result ≡ why_answer K.Item.alike entries.now i j }
     ensures tells { Tells K.Item.alike entries.now i j result }
@@ -61,16 +64,26 @@ pub fn why<K: Item>(entries: &[Entry<K>], i: u32, j: u32) -> Result<Option<Pair>
     Ok(first_pair(entries, i, j))
 }
 
-// The first order of the committed cues that every conflict keeps, or else a cycle of them, at the front of `list`.
+// The first order of the committed cues that keeps every conflicting pair, or else a cycle of
+// them, at the front of `list`; answers which, and how many cells it fills. Refused by 22 for a
+// `strip` of fewer than 64 bytes, then by 21 for a `list` with fewer cells than committed cues; a
+// refusal writes nothing.
 pub fn order_of<K: Item>(
     entries: &[Entry<K>],
     list: &mut [u32],
     strip: &mut [u8],
 ) -> Result<Found, Refusal>
-    ensures refuses { refusal_in result ≡ order_refusal entries.now (length list.old) (length strip.old) }
+    ensures answer { let cycle = cycle_in result list.new in
+        result ≡ order_answer K.Item.alike entries.now list.old strip.old cycle }
+    ensures list { let cycle = cycle_in result list.new in
+        list.new ≡ order_list K.Item.alike entries.now list.old strip.old cycle }
     ensures strip { strip.new ≡ strip_after result strip.old }
-    ensures lists { OrderLists K.Item.alike entries.now list.old list.new result }
-    ensures view { ShownView K.Item.alike entries.now list.new result }
+
+    // Which cycle is shown, where one is, is free.
+    ensures right { IfOk result (λ found.
+        AnswersOrder K.Item.alike entries.now (shown_in found list.new)) }
+    ensures view { IfOk result (λ found.
+        ShownKeepsView K.Item.alike entries.now (shown_in found list.new)) }
 {
     let graph = conflict_graph(entries);
     search(&graph, list, strip)

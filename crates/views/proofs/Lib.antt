@@ -8,3 +8,4 @@ pub mod Gathering
 pub mod Leaving
 pub mod Trying
 pub mod Answering
+pub mod AnswerRight

@@ -1,7 +1,7 @@
 -- What notes leave in the tables, one after another. Assumes nothing.
 use Rattle.std.proofs.Common.{◌≡◌, ℕ, ◌+◌, ◌<◌, ◌≤◌, Bool, true, false, ◌&&◌, ◌||◌, eqb, ltb, length, set, Some, sym, refl, ap, ◌∙◌, inl, inr, arith}
-use mathlib.Core.Bool.{and-true, or_assoc, or-false}
-use Rattle.std.proofs.lemmas.Bool.{and_from, and_left, and_parts, and_right, cases_Bool, cases_eq, cases_lt, eq-eqb, eqb-false, eqb-true, lt-ltb, le-ltb, or_right}
+use mathlib.Core.Bool.{or_assoc, or-false}
+use Rattle.std.proofs.lemmas.Bool.{and_from, and_left, and_parts, and_right, cases_eq, cases_lt, eq-eqb, eqb-false, eqb-true, lt-ltb, le-ltb, or_right}
 use Rattle.views.specs.declared.constraints.Constraints.{Constraints}
 use Rattle.views.specs.Noted.{Notes, none_ahead, none_apart}
 use Rattle.views.specs.Tables.{pair_in, triple_in, ahead_in, apart_in}

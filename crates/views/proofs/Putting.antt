@@ -1,9 +1,7 @@
 -- The loops that note what a read asks of the other writers. Assumes nothing.
-use Rattle.std.proofs.Common.{◌≡◌, ℕ, ◌+◌, ◌<◌, Bool, true, false, not, ◌&&◌, ◌||◌, eqb, ltb, List, sym, refl, subst, inl, inr, arith}
+use Rattle.std.proofs.Common.{◌≡◌, ℕ, ◌+◌, Bool, true, false, not, ◌&&◌, ◌||◌, eqb, ltb, List, sym, refl, subst, inl, inr}
 use Rattle.std.proofs.lemmas.Bool.{and_parts, or_cases}
 use Rattle.history.specs.Marked.{marked}
-use Rattle.history.proofs.Committed.{cue_high}
-use Rattle.history.proofs.Marks.{marked_cue}
 use Rattle.views.specs.declared.constraints.Constraints.{Constraints}
 use Rattle.views.specs.declared.members.Members.{Members}
 use Rattle.views.specs.Noted.{Notes, Member, Within, none_ahead, none_apart, other, first, PutsAhead, PutsApart, third, split}

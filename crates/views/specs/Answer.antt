@@ -1,15 +1,23 @@
--- What views answers, and what it leaves in the list. Assumes nothing.
-use Rattle.std.specs.Prelude.{ℕ, Bool, cond, List, ◌++◌, length, drop, Some, None, Ok, Err, Option, Result, nat_lt}
+-- What views answers, and what it leaves in the list that is lent.
+--
+--   views_refusal es cells    == the first refusal that is met, for a list of so many cells
+--   views_answer es list      == the answer
+--   views_list es list        == the list after it
+--   ViewsRight es list' r     == what is shown is right, and so is none
+use Rattle.std.specs.Prelude.{ℕ, Bool, cond, List, ◌++◌, length, take, drop, Some, None, Ok, Err}
+use Rattle.std.specs.Prelude.{Option, Result, nat_lt}
 use Rattle.std.specs.Option.{option_map}
 use Rattle.refusals.specs.declared.Refusal.{Refusal}
 use Rattle.refusals.specs.declared.Refusal.TheVariants.{ManyCues, ListShort}
 use Rattle.history.specs.declared.Entry.{Entry}
 use Rattle.history.specs.Order.{committed_cues}
 use Rattle.history.specs.Views.{view_order}
+use Rattle.history.specs.Answers.{AnswersViews}
 
--- the first refusal that is met, for a list of so many cells
 abbrev pub views_refusal : {K : Type 0} → List (Entry K) → ℕ → Option Refusal
-views_refusal es cells = cond (nat_lt 8 (length (committed_cues es))) (Some ManyCues) (cond (nat_lt cells (length (committed_cues es))) (Some ListShort) None)
+views_refusal es cells =
+    cond (nat_lt 8 (length (committed_cues es))) (Some ManyCues)
+    (cond (nat_lt cells (length (committed_cues es))) (Some ListShort) None)
 
 -- the refusal, or how long the order is where there is one
 abbrev pub answered : Option Refusal → Option (List ℕ) → Result (Option ℕ) Refusal
@@ -31,3 +39,8 @@ module _ {K : Type 0} (alike : K → K → Bool) where
 
   abbrev pub views_list : List (Entry K) → List ℕ → List ℕ
   views_list es list = left (views_refusal es (length list)) (view_order alike es) list
+
+  abbrev pub ViewsRight : List (Entry K) → List ℕ → Result (Option ℕ) Refusal → Type 0
+  ViewsRight es list' (Ok (Some n)) = AnswersViews alike es (Some (take n list'))
+  ViewsRight es list' (Ok None) = AnswersViews alike es None
+  ViewsRight es list' (Err e) = Unit {0}

@@ -2,7 +2,7 @@
 #![tactic(auto)]
 
 ghost use Rattle.std.specs.Prelude.{◌≡◌};
-ghost use Rattle.views.specs.Answer.{views_answer, views_list};
+ghost use Rattle.views.specs.Answer.{views_answer, views_list, ViewsRight};
 
 use constraints::constraints_of;
 use extending::Placing;
@@ -15,12 +15,15 @@ mod constraints;
 mod extending;
 mod members;
 
-// How long the first view-equivalent order of the committed cues is, which stands at the front of `list` then, or none. What such an
-// order must keep is derived from the book once, and orders are extended cue by cue under it. A length and no slice, since the list stays the
-// caller's.
+// How long the first view-equivalent order of the committed cues is, which stands at the front of
+// `list` then, or none. Refused by 23 with more than 8 committed cues, then by 21 for a `list`
+// with fewer cells than these; then, and where there is none, nothing is written. What such an
+// order must keep is derived from the book once, and orders are extended cue by cue under it. A
+// length and no slice, since the list stays the caller's.
 pub fn views_of<K: Item>(entries: &[Entry<K>], list: &mut [u32]) -> Result<Option<usize>, Refusal>
     ensures answer { result ≡ views_answer K.Item.alike entries.now list.old }
     ensures list { list.new ≡ views_list K.Item.alike entries.now list.old }
+    ensures right { ViewsRight K.Item.alike entries.now list.new result }
 {
     let Some(members) = members_of(entries) else {
         return Err(Refusal::ManyCues);

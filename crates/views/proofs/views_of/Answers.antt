@@ -3,6 +3,7 @@ use Rattle.std.specs.Bool.{then_some}
 use Rattle.equivalence.specs.Laws.{Sameness}
 use Rattle.views.specs.Shown.{rest_of}
 use Rattle.views.proofs.Answering.{start, view_hidden, view_shown, start_long, taken_answer, taken_list, none_list}
+use Rattle.views.proofs.AnswerRight.{shown_right}
 use Rattle.views.proofs.views_of.Given.{Over}
 use Rattle.views.proofs.views_of.Goals as goal
 
@@ -17,10 +18,9 @@ returns-in_default-constraints_of g c =
     let m = c.in-Some.members in
     let us = c.numbers-count.result.now in
     let none = view_hidden alike (sameness g) es c.in_default-constraints_of.ensures in
-    record {
-      answer = taken_answer alike es list m c.in-Some.ensures.some us c.numbers-count.ensures c.if-list-count.false None none;
-      list = none_list alike es list m c.in-Some.ensures.some us c.numbers-count.ensures c.if-list-count.false None none refl;
-    }
+    let answer = taken_answer alike es list m c.in-Some.ensures.some us c.numbers-count.ensures c.if-list-count.false None none in
+    let cells = none_list alike es list m c.in-Some.ensures.some us c.numbers-count.ensures c.if-list-count.false None none refl in
+    record { answer = answer; list = cells; right = shown_right alike (sameness g) es list _ _ answer cells }
 
 pub extend-found-requires : goal.extend-found-requires
 extend-found-requires g c =
@@ -37,9 +37,10 @@ returns g c =
     let t = c.in-Some-constraints_of.constraints in
     let rest = rest_of (start t) in
     let found = view_shown alike (sameness g) es t c.in-Some-constraints_of.ensures in
-    record {
-      answer = ap (λ o. Ok o) (c.then_some.ensures ∙ ap (λ b. then_some b (length us)) c.extend-found.ensures.found)
-          ∙ taken_answer alike es list m c.in-Some.ensures.some us c.numbers-count.ensures c.if-list-count.false rest found;
-      list = ap (λ zs. zs ++ drop (length us) list) c.extend-found.ensures.list
-          ∙ taken_list alike es list m c.in-Some.ensures.some us c.numbers-count.ensures c.if-list-count.false rest found;
-    }
+    let answer =
+    ap (λ o. Ok o) (c.then_some.ensures ∙ ap (λ b. then_some b (length us)) c.extend-found.ensures.found)
+    ∙ taken_answer alike es list m c.in-Some.ensures.some us c.numbers-count.ensures c.if-list-count.false rest found in
+    let cells =
+    ap (λ zs. zs ++ drop (length us) list) c.extend-found.ensures.list
+    ∙ taken_list alike es list m c.in-Some.ensures.some us c.numbers-count.ensures c.if-list-count.false rest found in
+    record { answer = answer; list = cells; right = shown_right alike (sameness g) es list _ _ answer cells }

@@ -1,12 +1,12 @@
-use Rattle.std.proofs.Common.{rules, ◌≡◌, ℕ, ◌+◌, min, length, take, Err, sym, ap, ◌∙◌, arith}
+use Rattle.std.proofs.Common.{rules, ◌≡◌, ℕ, ◌+◌, min, length, take, Ok, Err, sym, ap, ◌∙◌, arith}
 use Rattle.std.proofs.lemmas.List.{length-drop}
-use Rattle.std.proofs.lemmas.Result.{err_from_is_err_and}
 use Rattle.std.specs.Iterator.Adapters.{enumerate_source, enumerate_count}
 use Rattle.std.specs.Slice.Iter.{chunks_rest}
 use Rattle.book.specs.Entering.{room, accepted}
 use Rattle.book.specs.Reading.{Taken, lines_of, next_entered, told, added, read_from}
 use Rattle.book.proofs.Entering.{lays_two}
-use Rattle.book.proofs.Reading.{err_mapped, Cut, cut, turn_fault, turn_more}
+use Rattle.book.proofs.Reading.{Cut, cut, turn_fault, turn_more}
+use Rattle.book.proofs.ReadsIn.{reads_by}
 use Rattle.book.proofs.Book.read_in.Given as given
 use Rattle.book.proofs.Book.read_in.Goals as goal
 use Rattle.book.proofs.Book.read_in.Goals.{After-enter_line}
@@ -44,18 +44,22 @@ loop-i-preserved g c =
       steps.0.0 ∙ c.loop-i.invariant.4,
     )
 
-pub returns-in_err-map_err : goal.returns-in_err-map_err
-returns-in_err-map_err g c =
-    let at = (goal.at.returns-in_err-map_err g c).After-enter_line in
-    let n = enumerate_count c.loop-i.i-iterator in
-    let p = err_from_is_err_and c.from_residual.result c.from_residual.ensures.1 in
-    let m = err_mapped c.enter_line.result c.map_err.result (λ layer. record { line = c.in-Some.i + 1; layer = layer }) c.map_err.ensures.cases (λ layer fault q. search rules) c.in_err-map_err.field-0.0 c.in_err-map_err.was in
-    let t = turn_fault g.K.Item.parsed (room c.args.self.now) (accepted c.loop-i.self) n (chunks_rest (enumerate_source c.loop-i.i-iterator)) m.0
-    (sym (c.enter_line.ensures.answer ∙ ap told (line_is g at)) ∙ m.1) in
+pub returns-in-Err : goal.returns-in-Err
+returns-in-Err g c =
+    let at = (goal.at.returns-in-Err g c).After-enter_line in
+    let t = turn_fault g.K.Item.parsed (room c.args.self.now) (accepted c.loop-i.self) (enumerate_count c.loop-i.i-iterator) (chunks_rest (enumerate_source c.loop-i.i-iterator)) c.in-Err.layer
+    (sym (c.enter_line.ensures.answer ∙ ap told (line_is g at)) ∙ c.in-Err.is) in
     let all = sym t.0 ∙ c.loop-i.invariant.0 in
     let none = grows_by g at ∙ t.1 in
+    let answer = ap Err (c.from.ensures ∙ (λ i. record { line = c.in-Some.ensures.steps.1 i + 1; layer = c.in-Err.layer })) ∙ ap (λ (x : Taken _). x.answer) all in
+    let grows = none ∙ ap (λ (x : Taken _). x.entries) all in
     record {
-      answer = p.1 ∙ ap Err (p.2 ∙ m.2) ∙ ap Err (λ i. record { line = c.in-Some.ensures.steps.1 i + 1; layer = m.0 }) ∙ ap (λ (x : Taken _). x.answer) all;
-      grows = none ∙ ap (λ (x : Taken _). x.entries) all;
+      answer = answer;
+      grows = grows;
+      reads = reads_by g.K.Item.parsed (room c.args.self.now) (accepted c.args.self.now) c.args.sheet.now (Err c.from.result) (accepted c.enter_line.new.self) answer grows;
       lays = lays_two c.args.self.now c.loop-i.self c.enter_line.new.self c.loop-i.invariant.1 c.enter_line.ensures.lays c.loop-i.invariant.2 (omega (arith, ap length none));
     }
+
+pub returns-clause-reads : goal.returns-clause-reads
+returns-clause-reads g c =
+    reads_by g.K.Item.parsed (room c.args.self.now) (accepted c.args.self.now) c.args.sheet.now (Ok c.div_ceil.result) (accepted c.loop-i.self) (search rules) (search rules)

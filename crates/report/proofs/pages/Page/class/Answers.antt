@@ -8,4 +8,4 @@ use Rattle.report.proofs.pages.Page.class.Goals as goal
 pub overflow_cast-place : goal.overflow_cast-place
 overflow_cast-place g c =
     let book = c.args.book.now in
-    omega (arith, c.place.ensures ∙ ap class_place c.class-class.ensures, place_within g.K.Item.alike (accepted book), length-take book.len book.memory.now, book.few)
+    omega (arith, c.place.ensures ∙ ap class_place c.class-class.ensures.class, place_within g.K.Item.alike (accepted book), length-take book.len book.memory.now, book.few)
