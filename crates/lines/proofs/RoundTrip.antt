@@ -1,10 +1,12 @@
 -- A line that was written is read again, and one that was read is written again. Assumes nothing.
 use Rattle.std.proofs.Common.{◌≡◌, ℕ, zero, suc, ◌≤◌, Bool, true, false, cond, not, eqb, leb, List, [], ◌∷◌, ◌++◌, length, get_or, take, drop, replicate, Some, None, Ok, Err, decimal, Option, Result, sym, refl, ap, ◌∙◌, subst, arith}
+use Rattle.std.specs.Prelude.{is_some}
 use Rattle.std.specs.List.{between}
 use Rattle.std.proofs.lemmas.List.{length-append, take_all, take-append-drop}
 use Rattle.std.proofs.lemmas.Bool.{false≢true, and_parts, and_from, or_from, not_from_false, eqb-true, leb-true, le-leb, cond-true}
 use Rattle.refusals.specs.declared.LineRefusal.{LineRefusal}
 use Rattle.refusals.specs.declared.LineRefusal.TheVariants.{Shape, Letter, ItemField}
+use Rattle.refusals.specs.declared.Refusal.{Refusal}
 use Rattle.lists.specs.Lists.{has}
 use Rattle.lists.proofs.Has.{has_append}
 use Rattle.columns.specs.Columns.{after_blanks, justified, number, number_in}
@@ -18,7 +20,9 @@ use Rattle.history.specs.declared.Entry.{Entry}
 use Rattle.history.specs.Entries.{is_cue}
 use Rattle.lines.specs.Cutting.{CutLine, whole, field_of, line_cut}
 use Rattle.lines.specs.Reading.{blank, on_item, on_none, of_cue, act_in, after_cue, entry_in, line_in, some, next_in}
-use Rattle.lines.specs.Writing.{letter_of, item_of, line_of, SameAct, ReadsBack}
+use Rattle.lines.specs.Writing.{letter_of, item_of, line_of, SameAct, ReadsBack, WritesBack}
+use Rattle.lines.specs.Writing.{line_written, rewritten_as, rewritten_of, rewritten}
+use Rattle.lines.specs.Writing.{space_rewritten, space_copied}
 use Rattle.lines.proofs.Cutting.{cut_whole, cut_well, whole_long}
 
 -- the first n of a list, one by one
@@ -176,6 +180,20 @@ module _ {K : Type 0} (text : K → List ℕ) (parsed : List ℕ → Option K) w
   some_read (Ok f) e h = let same : f ≡ e = cc in ap Ok same
   some_read (Err f) e h = absurd (let z : ◌≡◌ {A = ℕ} 0 1 = cc in omega arith)
 
+  as_read :
+      (d e : Entry K) (w : Result (Unit {0}) Refusal) → rewritten_as d w ≡ Ok (Some e) → d ≡ e
+  as_read d e (Ok x) h = cc
+  as_read d e (Err f) h = absurd (let z : ◌≡◌ {A = ℕ} 0 1 = cc in omega arith)
+
+  -- what was read, by the answer to rewriting it
+  rewritten_read :
+      (r : Result (Option (Entry K)) LineRefusal) (n : ℕ) (e : Entry K) →
+      rewritten_of r n ≡ Ok (Some e) → r ≡ Ok (Some e)
+  rewritten_read (Ok None) n e h = absurd (let z : ◌≡◌ {A = ℕ} 0 1 = cc in omega arith)
+  rewritten_read (Ok (Some d)) n e h =
+      ap (λ (x : Entry K). Ok (Some x)) (as_read d e (line_written d n) h)
+  rewritten_read (Err f) n e h = absurd (let z : ◌≡◌ {A = ℕ} 0 1 = cc in omega arith)
+
   module _ (exact : (bs : List ℕ) (a : K) → length bs ≡ 8 → parsed bs ≡ Some a → text a ≡ bs) where
     -- an act is written as the letter and the item field that it was read from
 
@@ -220,3 +238,17 @@ module _ {K : Type 0} (text : K → List ℕ) (parsed : List ℕ → Option K) w
     pub next_again : (bs : List ℕ) (e : Entry K) → next_in parsed bs ≡ Ok (Some e) → line_of text e ≡ take 16 bs
     next_again [] e h = absurd (let z : ◌≡◌ {A = ℕ} 0 1 = cc in omega arith)
     next_again (b ∷ bs) e h = written_again (b ∷ bs) e (some_read (line_in parsed (b ∷ bs)) e h)
+
+    -- the law of lines, for exact kinds
+    pub writes_back : WritesBack parsed text
+    writes_back bs e sixteen h = written_again bs e h ∙ take_all 16 bs (omega arith)
+
+    -- the line that was written of what was read has the bytes that stood there
+    pub rewritten_same :
+        (found : Option (Entry K)) (sheet space : List ℕ) (n : ℕ) →
+        Ok found ≡ rewritten parsed sheet n →
+        space_rewritten text (Ok found) space ≡ space_copied (Ok (is_some found)) sheet space
+    rewritten_same None sheet space n h = refl
+    rewritten_same (Some e) sheet space n h =
+        ap (λ (xs : List ℕ). xs ++ drop 16 space)
+        (next_again sheet e (rewritten_read (next_in parsed sheet) n e (sym h)))

@@ -1,5 +1,7 @@
 -- The line that says an entry. Assumes nothing.
-use Rattle.std.specs.Prelude.{◌≡◌, ℕ, Bool, true, false, cond, not, List, [], ◌∷◌, ◌++◌, take, drop, replicate, Some, None, Ok, Err, Option, Result, nat_lt}
+use Rattle.std.specs.Prelude.{◌≡◌, ℕ, Bool, true, false, cond, not, nat_lt}
+use Rattle.std.specs.Prelude.{List, [], ◌∷◌, ◌++◌, length, take, drop, replicate}
+use Rattle.std.specs.Prelude.{Some, None, Ok, Err, Option, Result, is_some}
 use Rattle.refusals.specs.declared.Layer.{Layer}
 use Rattle.refusals.specs.declared.Layer.TheVariants.{Line, Book}
 use Rattle.refusals.specs.declared.LineRefusal.{LineRefusal}
@@ -27,13 +29,16 @@ module _ {K : Type 0} where
   item_of text Abort = replicate 8 32
 
   abbrev pub line_of : (K → List ℕ) → Entry K → List ℕ
-  line_of text e = number_in 4 e.cue ++ (32 ∷ letter_of e.act ∷ 32 ∷ item_of text e.act) ++ 10 ∷ []
+  line_of text e =
+      number_in 4 e.cue ++ (32 ∷ letter_of e.act ∷ 32 ∷ item_of text e.act) ++ 10 ∷ []
 
   -- the answer to writing an entry into so many bytes, and the space after it
   abbrev pub line_written : Entry K → ℕ → Result (Unit {0}) Refusal
-  line_written e n = cond (not (is_cue e.cue)) (Err NoSuchCue) (cond (nat_lt n 16) (Err SpaceShort) (Ok tt))
+  line_written e n =
+      cond (not (is_cue e.cue)) (Err NoSuchCue) (cond (nat_lt n 16) (Err SpaceShort) (Ok tt))
 
-  abbrev pub space_after : (K → List ℕ) → Entry K → Result (Unit {0}) Refusal → List ℕ → List ℕ
+  abbrev pub space_after :
+      (K → List ℕ) → Entry K → Result (Unit {0}) Refusal → List ℕ → List ℕ
   space_after text e (Ok x) space = line_of text e ++ drop 16 space
   space_after text e (Err f) space = space
 
@@ -61,26 +66,50 @@ module _ {K : Type 0} where
     pub act : SameAct alike e.act f.act
 
   -- the bytes are read as an entry that is the same as e
-  pub record ReadsBack (alike : K → K → Bool) (parsed : List ℕ → Option K) (bs : List ℕ) (e : Entry K) : Type 0 where
+  pub record ReadsBack
+      (alike : K → K → Bool) (parsed : List ℕ → Option K) (bs : List ℕ) (e : Entry K)
+      : Type 0 where
     pub found : Entry K
     pub read : line_in parsed bs ≡ Ok found
     pub same : SameEntry alike e found
 
--- the answer to copying a line, by the answer to writing it: whether a line was copied
-abbrev copied_by : Result (Unit {0}) Refusal → Result Bool Layer
-copied_by (Ok x) = Ok true
-copied_by (Err f) = Err (Book f)
+  -- sixteen bytes that are read as an entry are the line that is written of it
+  abbrev pub WritesBack : (List ℕ → Option K) → (K → List ℕ) → Type 0
+  WritesBack parsed text =
+      (bs : List ℕ) (e : Entry K) →
+      length bs ≡ 16 → line_in parsed bs ≡ Ok e → line_of text e ≡ bs
 
 module _ {K : Type 0} where
-  -- the answer to copying what was read into so many bytes
-  abbrev pub copied_of : Result (Option (Entry K)) LineRefusal → ℕ → Result Bool Layer
-  copied_of (Ok None) n = Ok false
-  copied_of (Ok (Some e)) n = copied_by (line_written e n)
-  copied_of (Err f) n = Err (Line f)
+  -- the answer to rewriting a line, by the answer to writing the entry that was read of it
+  abbrev pub rewritten_as : Entry K → Result (Unit {0}) Refusal → Result (Option (Entry K)) Layer
+  rewritten_as e (Ok x) = Ok (Some e)
+  rewritten_as e (Err f) = Err (Book f)
 
-  -- the same, for the first line of a sheet
+  -- the answer to writing what was read into so many bytes
+  abbrev pub rewritten_of :
+      Result (Option (Entry K)) LineRefusal → ℕ → Result (Option (Entry K)) Layer
+  rewritten_of (Ok None) n = Ok None
+  rewritten_of (Ok (Some e)) n = rewritten_as e (line_written e n)
+  rewritten_of (Err f) n = Err (Line f)
+
+  -- the same, for the first line of a sheet: its entry, where the line of it was written
+  abbrev pub rewritten : (List ℕ → Option K) → List ℕ → ℕ → Result (Option (Entry K)) Layer
+  rewritten parsed sheet n = rewritten_of (next_in parsed sheet) n
+
+  -- the space after it: the line that is written of the entry and the rest, or what it held
+  abbrev pub space_rewritten : (K → List ℕ) → Result (Option (Entry K)) Layer → List ℕ → List ℕ
+  space_rewritten text (Ok (Some e)) space = line_of text e ++ drop 16 space
+  space_rewritten text (Ok None) space = space
+  space_rewritten text (Err f) space = space
+
+  -- whether a line was copied, by the answer to rewriting it
+  abbrev copied_by : Result (Option (Entry K)) Layer → Result Bool Layer
+  copied_by (Ok found) = Ok (is_some found)
+  copied_by (Err f) = Err f
+
+  -- the answer to copying the first line of a sheet into so many bytes
   abbrev pub copied : (List ℕ → Option K) → List ℕ → ℕ → Result Bool Layer
-  copied parsed sheet n = copied_of (next_in parsed sheet) n
+  copied parsed sheet n = copied_by (rewritten parsed sheet n)
 
 -- the space after it: the bytes of the line as they stood, or what it held
 abbrev pub space_copied : Result Bool Layer → List ℕ → List ℕ → List ℕ

@@ -7,7 +7,7 @@ mod writes;
 
 pub use cuts::{Field, Fields, Part, cut};
 pub use reads::read_line;
-pub use writes::{copy_line, write_line};
+pub use writes::{copy_line, line_writes_back, rewrite_line, write_line};
 
 // How many bytes a line has, its line feed among them.
 pub const LINE: usize = 16;

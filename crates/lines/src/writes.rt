@@ -1,6 +1,9 @@
 // Writing a line: the 16 bytes that say an entry.
-ghost use Rattle.std.specs.Prelude.{◌≡◌, ◌+◌, ◌≤◌, true, ◌++◌, length, take, drop, is_ok};
-ghost use Rattle.lines.specs.Writing.{letter_of, item_of, line_written, space_after, ReadsBack, copied, space_copied};
+ghost use Rattle.std.specs.Prelude.{◌≡◌, ◌+◌, ◌≤◌, true, ◌++◌, length, take, drop};
+ghost use Rattle.std.specs.Prelude.{is_ok, IfOk, IfSome};
+ghost use Rattle.lines.specs.Writing.{letter_of, item_of, line_written, space_after};
+ghost use Rattle.lines.specs.Writing.{ReadsBack, WritesBack, copied, space_copied};
+ghost use Rattle.lines.specs.Writing.{rewritten, space_rewritten};
 
 use crate::LINE;
 use crate::reads::read_line;
@@ -36,7 +39,8 @@ fn item_of<K: Item>(act: &Act<K>) -> [u8; 8]
 // Copies bytes into a space, from a place on.
 fn put(space: &mut [u8], at: usize, bytes: &[u8])
     requires { at + length bytes.now ≤ length space.old }
-    ensures { space.new ≡ take at space.old ++ (bytes.now ++ drop (at + length bytes.now) space.old) }
+    ensures { space.new ≡ take at space.old ++
+        (bytes.now ++ drop (at + length bytes.now) space.old) }
 {
     space[at..at + bytes.len()].copy_from_slice(bytes);
 }
@@ -45,7 +49,8 @@ fn put(space: &mut [u8], at: usize, bytes: &[u8])
 pub fn write_line<K: Item>(entry: &Entry<K>, space: &mut [u8]) -> Result<(), Refusal>
     ensures answer { result ≡ line_written entry.now (length space.old) }
     ensures space { space.new ≡ space_after K.Item.text entry.now result space.old }
-    ensures back { is_ok result ≡ true → ReadsBack K.Item.alike K.Item.parsed space.new entry.now }
+    ensures back { is_ok result ≡ true →
+        ReadsBack K.Item.alike K.Item.parsed space.new entry.now }
 {
     if !is_cue(entry.cue) {
         return Err(Refusal::NoSuchCue);
@@ -62,17 +67,39 @@ pub fn write_line<K: Item>(entry: &Entry<K>, space: &mut [u8]) -> Result<(), Ref
     Ok(())
 }
 
-// Reads the first line of a sheet and writes it into a space, byte for byte as it stood; answers `false` at the sheet's end, where there is
-// no line to copy.
-pub fn copy_line<K: Exact>(sheet: &[u8], space: &mut [u8]) -> Result<bool, Layer>
-    ensures answer { result ≡ copied K.Item.parsed sheet.now (length space.old) }
-    ensures space { space.new ≡ space_copied result sheet.now space.old }
+// Reads the first line of a sheet and writes its entry into a space, as a line in the form that
+// the kind writes; answers the entry, or `None` at the sheet's end, where nothing is written.
+// Refused by 1 to 4 as reading, by 11 for the cue number, by 26 for a space of fewer than 16
+// bytes; then nothing is written.
+pub fn rewrite_line<K: Item>(sheet: &[u8], space: &mut [u8]) -> Result<Option<Entry<K>>, Layer>
+    ensures answer { result ≡ rewritten K.Item.parsed sheet.now (length space.old) }
+    ensures space { space.new ≡ space_rewritten K.Item.text result space.old }
+    // What was written is read as an entry that is the same.
+    ensures back { IfOk result (λ found.
+        IfSome found (ReadsBack K.Item.alike K.Item.parsed space.new)) }
 {
     match read_line::<K>(sheet)? {
-        None => Ok(false),
+        None => Ok(None),
         Some(entry) => {
             write_line(&entry, space)?;
-            Ok(true)
+            Ok(Some(entry))
         }
     }
 }
+
+// Reads the first line of a sheet and writes it into a space, byte for byte as it stood; answers
+// `false` at the sheet's end, where there is no line to copy. Refused as `rewrite_line` is.
+pub fn copy_line<K: Exact>(sheet: &[u8], space: &mut [u8]) -> Result<bool, Layer>
+    ensures answer { result ≡ copied K.Item.parsed sheet.now (length space.old) }
+    ensures space { space.new ≡ space_copied result sheet.now space.old }
+    // What stands there is the line that is written of the entry.
+    ensures written { space.new ≡ space_rewritten K.Item.text
+        (rewritten K.Item.parsed sheet.now (length space.old)) space.old }
+{
+    Ok(rewrite_line::<K>(sheet, space)?.is_some())
+}
+
+// That sixteen bytes which are read as an entry are the bytes of the line that is written of it.
+pub fn line_writes_back<K: Exact>()
+    ensures { WritesBack K.Item.parsed K.Item.text }
+{}
