@@ -1,10 +1,11 @@
--- That cues are a cycle, by computing. Assumes nothing.
+-- That cues are a cycle, by computing.
 use Rattle.std.proofs.Common.{◌≡◌, ℕ, zero, suc, ◌+◌, ◌-◌, ◌<◌, ◌≤◌, Bool, true, false, not, ◌&&◌, List, [], ◌∷◌, length, eqb, leb, get_or, arith, ap, ◌∙◌, refl}
 use Rattle.std.specs.List.{list_all}
 use Rattle.std.proofs.lemmas.Bool.{and_parts, leb-true, eq-eqb, not-true, both_ways}
 use Rattle.history.specs.declared.Entry.{Entry}
 use Rattle.history.specs.Entries.{committed}
 use Rattle.history.specs.Order.{arrow, ConflictCycle}
+use Rattle.history.proofs.Keeping.{arrow_must}
 
 all_at : (test : ℕ → Bool) (c : List ℕ) (i : ℕ) → i < length c → list_all test c ≡ true → test (get_or c i 0) ≡ true
 all_at test [] i l h = absurd (omega arith)
@@ -63,8 +64,12 @@ module _ {K : Type 0} (alike : K → K → Bool) (es : List (Entry K)) where
         two = omega (arith, some);
         members = λ i l. all_at (committed es) (n ∷ ns) i l q.0;
         distinct = λ i j l m e. apart_at (n ∷ ns) i j l m r.0 e;
-        steps = λ i l. ap (λ (k : ℕ). arrow alike es (get_or (n ∷ ns) i 0) (get_or (n ∷ ns) k 0)) (next i) ∙ leads_on n (n ∷ ns) i (omega (arith, l)) r.1;
-        closes = ap (λ (i : ℕ). arrow alike es (get_or (n ∷ ns) i 0) n) last ∙ leads_back n n ns r.1;
+        steps = λ i l.
+            arrow_must alike es (get_or (n ∷ ns) i 0) (get_or (n ∷ ns) (i + 1) 0)
+            (ap (λ (k : ℕ). arrow alike es (get_or (n ∷ ns) i 0) (get_or (n ∷ ns) k 0)) (next i) ∙ leads_on n (n ∷ ns) i (omega (arith, l)) r.1);
+        closes =
+            arrow_must alike es (get_or (n ∷ ns) (length (n ∷ ns) - 1) 0) n
+            (ap (λ (i : ℕ). arrow alike es (get_or (n ∷ ns) i 0) n) last ∙ leads_back n n ns r.1);
       }
 
 module _ {K : Type 0} {alike : K → K → Bool} {es : List (Entry K)} {c : List ℕ} where

@@ -1,2 +1,4 @@
 pub mod Cycles
+pub mod Rows
 pub mod Samples
+pub mod Histories

@@ -1,19 +1,12 @@
--- The sample books: each with its class and the class's place, its order or a cycle, and its view-equivalent order. Assumes nothing.
+-- The twelve sample books, of axes and of marks, each with its number. Assumes nothing.
 use Rattle.std.specs.Prelude.{ℕ, ◌-◌, List, [], ◌∷◌, Some, None}
 use Rattle.std.specs.List.{AllByRecursion}
 use Rattle.items.specs.declared.Axis.{Axis}
 use Rattle.items.specs.declared.Mark.{Mark}
 use Rattle.items.specs.Kinds.{axis_alike, mark_alike}
 use Rattle.items.specs.Words.{word_from}
-use Rattle.history.specs.declared.Entry.{Entry}
-use Rattle.agreement.specs.Rows.{ordered, cyclic, Row, row, read, write, c, a, Agrees}
-
--- cue n reads or writes the axis with number k
-abbrev pub r : ℕ → ℕ → Entry Axis
-r n k = read n (record { number = k })
-
-abbrev pub w : ℕ → ℕ → Entry Axis
-w n k = write n (record { number = k })
+use Rattle.history.specs.Answers.{ordered, cyclic}
+use Rattle.agreement.specs.Rows.{Row, row, read, write, c, a, r, w, RowAgrees}
 
 -- the mark with these letters
 abbrev pub spelt : List ℕ → Mark
@@ -26,109 +19,50 @@ trap = spelt (116 ∷ 114 ∷ 97 ∷ 112 ∷ [])
 abbrev pub trap_in_capitals : Mark
 trap_in_capitals = spelt (84 ∷ 82 ∷ 65 ∷ 80 ∷ [])
 
--- classes are 0 not recoverable, 1 recoverable, 2 cascadeless, 3 strict, which has no place
-abbrev pub axes : List (Row Axis)
-axes =
-    -- empty
-    row [] (3, 0) (ordered []) (Some []) ∷
-    -- a reader commits first
-    row (w 1 5 ∷ r 2 5 ∷ c 2 ∷ c 1 ∷ []) (0, 3) (ordered (1 ∷ 2 ∷ [])) (Some (1 ∷ 2 ∷ [])) ∷
-    -- a read of what is not committed
-    row (w 1 5 ∷ r 2 5 ∷ c 1 ∷ c 2 ∷ []) (1, 2) (ordered (1 ∷ 2 ∷ [])) (Some (1 ∷ 2 ∷ [])) ∷
-    -- a write over what is not committed
-    row (w 1 5 ∷ w 2 5 ∷ c 1 ∷ c 2 ∷ []) (2, 2) (ordered (1 ∷ 2 ∷ [])) (Some (1 ∷ 2 ∷ [])) ∷
-    -- a read after the abort
-    row (w 1 5 ∷ a 1 ∷ r 2 5 ∷ c 2 ∷ []) (3, 0) (ordered (2 ∷ [])) (Some (2 ∷ [])) ∷
-    -- blind writes that a third cue covers
-    row (w 1 9 ∷ w 2 9 ∷ w 2 4 ∷ c 2 ∷ w 1 4 ∷ c 1 ∷ w 3 9 ∷ w 3 4 ∷ c 3 ∷ []) (2, 2) (cyclic (1 ∷ 2 ∷ [])) (Some (1 ∷ 2 ∷ 3 ∷ [])) ∷
-    -- blind writes that none covers
-    row (w 1 9 ∷ w 2 9 ∷ w 2 4 ∷ c 2 ∷ w 1 4 ∷ c 1 ∷ []) (2, 2) (cyclic (1 ∷ 2 ∷ [])) None ∷
-    -- a read of another's write over one's own
-    row (w 1 3 ∷ w 2 3 ∷ r 1 3 ∷ c 1 ∷ c 2 ∷ []) (0, 4) (cyclic (1 ∷ 2 ∷ [])) None ∷
-    -- a write after the reader
-    row (w 1 3 ∷ r 2 3 ∷ w 1 3 ∷ c 1 ∷ c 2 ∷ []) (1, 2) (cyclic (1 ∷ 2 ∷ [])) None ∷
-    -- the last write is aborted
-    row (w 1 5 ∷ w 2 5 ∷ a 2 ∷ r 3 5 ∷ c 1 ∷ c 3 ∷ []) (1, 4) (ordered (1 ∷ 3 ∷ [])) (Some (1 ∷ 3 ∷ [])) ∷
-    -- commits against the order
-    row (r 1 5 ∷ w 2 5 ∷ c 2 ∷ c 1 ∷ []) (3, 0) (ordered (1 ∷ 2 ∷ [])) (Some (1 ∷ 2 ∷ [])) ∷
+-- a row of either kind
+pub data Sample : Type 0 where
+  of_axes : Row Axis → Sample
+  of_marks : Row Mark → Sample
+
+abbrev pub Agrees : Sample → Type 0
+Agrees (of_axes x) = RowAgrees axis_alike x
+Agrees (of_marks x) = RowAgrees mark_alike x
+
+abbrev pub samples : List Sample
+samples =
+    -- 1, empty
+    of_axes (row [] (3, 0) (ordered []) (Some [])) ∷
+    -- 2, a reader commits first
+    of_axes (row (w 1 5 ∷ r 2 5 ∷ c 2 ∷ c 1 ∷ [])
+    (0, 3) (ordered (1 ∷ 2 ∷ [])) (Some (1 ∷ 2 ∷ []))) ∷
+    -- 3, a read of what is not committed
+    of_axes (row (w 1 5 ∷ r 2 5 ∷ c 1 ∷ c 2 ∷ [])
+    (1, 2) (ordered (1 ∷ 2 ∷ [])) (Some (1 ∷ 2 ∷ []))) ∷
+    -- 4, a write over what is not committed
+    of_axes (row (w 1 5 ∷ w 2 5 ∷ c 1 ∷ c 2 ∷ [])
+    (2, 2) (ordered (1 ∷ 2 ∷ [])) (Some (1 ∷ 2 ∷ []))) ∷
+    -- 6, a read after the abort
+    of_axes (row (w 1 5 ∷ a 1 ∷ r 2 5 ∷ c 2 ∷ []) (3, 0) (ordered (2 ∷ [])) (Some (2 ∷ []))) ∷
+    -- 7, blind writes that a third cue covers
+    of_axes (row (w 1 9 ∷ w 2 9 ∷ w 2 4 ∷ c 2 ∷ w 1 4 ∷ c 1 ∷ w 3 9 ∷ w 3 4 ∷ c 3 ∷ [])
+    (2, 2) (cyclic (1 ∷ 2 ∷ [])) (Some (1 ∷ 2 ∷ 3 ∷ []))) ∷
+    -- 8, blind writes that none covers
+    of_axes (row (w 1 9 ∷ w 2 9 ∷ w 2 4 ∷ c 2 ∷ w 1 4 ∷ c 1 ∷ [])
+    (2, 2) (cyclic (1 ∷ 2 ∷ [])) None) ∷
+    -- 9, a read of another's write over one's own
+    of_axes (row (w 1 3 ∷ w 2 3 ∷ r 1 3 ∷ c 1 ∷ c 2 ∷ []) (0, 4) (cyclic (1 ∷ 2 ∷ [])) None) ∷
+    -- 10, a write after the reader
+    of_axes (row (w 1 3 ∷ r 2 3 ∷ w 1 3 ∷ c 1 ∷ c 2 ∷ []) (1, 2) (cyclic (1 ∷ 2 ∷ [])) None) ∷
+    -- 11, the last write is aborted
+    of_axes (row (w 1 5 ∷ w 2 5 ∷ a 2 ∷ r 3 5 ∷ c 1 ∷ c 3 ∷ [])
+    (1, 4) (ordered (1 ∷ 3 ∷ [])) (Some (1 ∷ 3 ∷ []))) ∷
+    -- 13, commits against the order
+    of_axes (row (r 1 5 ∷ w 2 5 ∷ c 2 ∷ c 1 ∷ [])
+    (3, 0) (ordered (1 ∷ 2 ∷ [])) (Some (1 ∷ 2 ∷ []))) ∷
+    -- 14, marks of either case are the same
+    of_marks (row (write 1 trap ∷ read 2 trap_in_capitals ∷ c 1 ∷ c 2 ∷ [])
+    (1, 2) (ordered (1 ∷ 2 ∷ [])) (Some (1 ∷ 2 ∷ []))) ∷
     []
 
-abbrev pub marks : List (Row Mark)
-marks =
-    -- marks of either case are the same
-    row (write 1 trap ∷ read 2 trap_in_capitals ∷ c 1 ∷ c 2 ∷ []) (1, 2) (ordered (1 ∷ 2 ∷ [])) (Some (1 ∷ 2 ∷ [])) ∷
-    []
-
-abbrev pub interleavings : List (Row Axis)
-interleavings =
-    -- blind writes after a read, the last of a third cue
-    row (r 3 1 ∷ w 4 1 ∷ w 3 1 ∷ w 5 1 ∷ c 3 ∷ c 4 ∷ c 5 ∷ []) (2, 3) (cyclic (3 ∷ 4 ∷ [])) (Some (3 ∷ 4 ∷ 5 ∷ [])) ∷
-    -- a cycle, and one view-equivalent order
-    row (r 2 2 ∷ w 2 1 ∷ r 1 1 ∷ r 3 1 ∷ w 1 2 ∷ w 2 2 ∷ w 3 2 ∷ c 1 ∷ c 2 ∷ c 3 ∷ []) (0, 8) (cyclic (1 ∷ 2 ∷ [])) (Some (2 ∷ 1 ∷ 3 ∷ [])) ∷
-    -- the same two cues four times: the second commits before the first
-    row (w 1 1 ∷ w 1 2 ∷ r 2 4 ∷ w 2 1 ∷ r 2 2 ∷ w 2 2 ∷ c 2 ∷ w 1 3 ∷ c 1 ∷ []) (0, 7) (ordered (1 ∷ 2 ∷ [])) (Some (1 ∷ 2 ∷ [])) ∷
-    -- the second reads before the first commits
-    row (w 1 1 ∷ w 1 2 ∷ r 2 4 ∷ w 2 1 ∷ r 2 2 ∷ w 2 2 ∷ w 1 3 ∷ c 1 ∷ c 2 ∷ []) (1, 5) (ordered (1 ∷ 2 ∷ [])) (Some (1 ∷ 2 ∷ [])) ∷
-    -- the second writes before the first commits
-    row (w 1 1 ∷ w 1 2 ∷ r 2 4 ∷ w 2 1 ∷ w 1 3 ∷ c 1 ∷ r 2 2 ∷ w 2 2 ∷ c 2 ∷ []) (2, 4) (ordered (1 ∷ 2 ∷ [])) (Some (1 ∷ 2 ∷ [])) ∷
-    -- the second waits for the first
-    row (w 1 1 ∷ w 1 2 ∷ r 2 4 ∷ w 1 3 ∷ c 1 ∷ w 2 1 ∷ r 2 2 ∷ w 2 2 ∷ c 2 ∷ []) (3, 0) (ordered (1 ∷ 2 ∷ [])) (Some (1 ∷ 2 ∷ [])) ∷
-    []
-
-abbrev pub histories : List (Row Axis)
-histories =
-    -- a read after the commit
-    row (w 1 5 ∷ c 1 ∷ r 2 5 ∷ c 2 ∷ []) (3, 0) (ordered (1 ∷ 2 ∷ [])) (Some (1 ∷ 2 ∷ [])) ∷
-    -- a reader of an open cue commits
-    row (w 1 5 ∷ r 2 5 ∷ c 2 ∷ []) (0, 3) (ordered (2 ∷ [])) (Some (2 ∷ [])) ∷
-    -- a cue reads its own write
-    row (w 1 5 ∷ r 1 5 ∷ w 1 5 ∷ c 1 ∷ []) (3, 0) (ordered (1 ∷ [])) (Some (1 ∷ [])) ∷
-    -- the writer aborts after it was read
-    row (w 1 5 ∷ r 2 5 ∷ a 1 ∷ c 2 ∷ []) (0, 4) (ordered (2 ∷ [])) (Some (2 ∷ [])) ∷
-    -- the aborted write is read before the abort
-    row (w 1 5 ∷ w 2 5 ∷ r 3 5 ∷ a 2 ∷ c 3 ∷ c 1 ∷ []) (0, 5) (ordered (1 ∷ 3 ∷ [])) (Some (1 ∷ 3 ∷ [])) ∷
-    -- transfers one after the other
-    row (r 1 1 ∷ w 1 1 ∷ r 1 2 ∷ w 1 2 ∷ c 1 ∷ r 2 1 ∷ w 2 1 ∷ r 2 2 ∷ w 2 2 ∷ c 2 ∷ []) (3, 0) (ordered (1 ∷ 2 ∷ [])) (Some (1 ∷ 2 ∷ [])) ∷
-    -- transfers side by side, in one order
-    row (r 1 1 ∷ w 1 1 ∷ r 2 1 ∷ w 2 1 ∷ r 1 2 ∷ w 1 2 ∷ c 1 ∷ r 2 2 ∷ w 2 2 ∷ c 2 ∷ []) (1, 3) (ordered (1 ∷ 2 ∷ [])) (Some (1 ∷ 2 ∷ [])) ∷
-    -- transfers that cross
-    row (r 1 1 ∷ r 2 1 ∷ w 2 1 ∷ r 2 2 ∷ w 1 1 ∷ r 1 2 ∷ w 1 2 ∷ c 1 ∷ w 2 2 ∷ c 2 ∷ []) (2, 5) (cyclic (1 ∷ 2 ∷ [])) None ∷
-    -- each begins with what the other ends with
-    row (r 1 1 ∷ w 1 1 ∷ r 2 2 ∷ w 2 2 ∷ r 1 2 ∷ w 1 2 ∷ r 2 1 ∷ w 2 1 ∷ c 1 ∷ c 2 ∷ []) (0, 9) (cyclic (1 ∷ 2 ∷ [])) None ∷
-    -- a lost update
-    row (r 1 1 ∷ r 2 1 ∷ w 1 1 ∷ r 1 2 ∷ w 2 1 ∷ c 2 ∷ w 1 2 ∷ c 1 ∷ []) (2, 5) (cyclic (1 ∷ 2 ∷ [])) None ∷
-    -- three cues, two of them in a ring
-    row (r 2 3 ∷ r 2 2 ∷ w 2 2 ∷ r 3 2 ∷ r 3 3 ∷ r 1 1 ∷ w 1 1 ∷ w 3 2 ∷ w 3 3 ∷ c 3 ∷ r 2 1 ∷ r 1 2 ∷ w 1 2 ∷ c 1 ∷ w 2 1 ∷ c 2 ∷ []) (0, 10) (cyclic (1 ∷ 2 ∷ [])) None ∷
-    -- three cues in an order
-    row (r 3 2 ∷ r 3 3 ∷ r 1 1 ∷ w 1 1 ∷ w 3 2 ∷ w 3 3 ∷ c 3 ∷ r 2 3 ∷ r 1 2 ∷ w 1 2 ∷ c 1 ∷ r 2 2 ∷ w 2 2 ∷ r 2 1 ∷ w 2 1 ∷ c 2 ∷ []) (3, 0) (ordered (3 ∷ 1 ∷ 2 ∷ [])) (Some (3 ∷ 1 ∷ 2 ∷ [])) ∷
-    -- four cues in falling order
-    row (r 4 4 ∷ w 3 1 ∷ r 2 1 ∷ r 1 1 ∷ w 4 4 ∷ w 3 2 ∷ r 1 2 ∷ w 1 1 ∷ r 3 4 ∷ w 3 3 ∷ r 2 3 ∷ w 1 2 ∷ r 2 4 ∷ w 2 3 ∷ c 1 ∷ c 2 ∷ c 3 ∷ c 4 ∷ []) (0, 15) (ordered (4 ∷ 3 ∷ 2 ∷ 1 ∷ [])) (Some (4 ∷ 3 ∷ 2 ∷ 1 ∷ [])) ∷
-    -- four cues, some in a ring
-    row (r 1 1 ∷ r 2 1 ∷ r 2 3 ∷ w 3 1 ∷ w 3 2 ∷ r 4 4 ∷ r 1 2 ∷ w 4 4 ∷ w 1 1 ∷ r 2 4 ∷ r 3 4 ∷ w 3 3 ∷ w 2 3 ∷ w 1 2 ∷ c 1 ∷ c 2 ∷ c 3 ∷ c 4 ∷ []) (0, 15) (cyclic (3 ∷ 2 ∷ 1 ∷ [])) None ∷
-    -- three cues in a ring
-    row (r 1 1 ∷ w 2 1 ∷ r 2 2 ∷ w 3 2 ∷ r 3 3 ∷ w 1 3 ∷ c 1 ∷ c 2 ∷ c 3 ∷ []) (3, 0) (cyclic (1 ∷ 2 ∷ 3 ∷ [])) None ∷
-    -- a ring with an aborted cue
-    row (r 1 1 ∷ w 2 1 ∷ r 2 2 ∷ w 3 2 ∷ r 3 3 ∷ w 1 3 ∷ c 1 ∷ a 2 ∷ c 3 ∷ []) (3, 0) (ordered (3 ∷ 1 ∷ [])) (Some (3 ∷ 1 ∷ [])) ∷
-    -- the smallest that can go first goes first
-    row (r 3 1 ∷ w 1 1 ∷ r 4 2 ∷ w 2 2 ∷ c 1 ∷ c 2 ∷ c 3 ∷ c 4 ∷ []) (3, 0) (ordered (3 ∷ 1 ∷ 4 ∷ 2 ∷ [])) (Some (3 ∷ 1 ∷ 4 ∷ 2 ∷ [])) ∷
-    -- a polygraph of four cues
-    row (r 2 1 ∷ r 1 1 ∷ w 1 3 ∷ r 3 3 ∷ w 1 2 ∷ r 4 2 ∷ w 3 1 ∷ r 4 3 ∷ w 2 4 ∷ r 2 2 ∷ w 4 1 ∷ w 4 2 ∷ c 1 ∷ c 2 ∷ c 3 ∷ c 4 ∷ []) (1, 4) (ordered (1 ∷ 2 ∷ 3 ∷ 4 ∷ [])) (Some (1 ∷ 2 ∷ 3 ∷ 4 ∷ [])) ∷
-    -- transfers that the sums alone let change places
-    row (r 1 1 ∷ w 1 1 ∷ r 5 2 ∷ w 5 2 ∷ r 1 2 ∷ w 1 2 ∷ r 5 1 ∷ w 5 1 ∷ c 1 ∷ c 5 ∷ []) (0, 9) (cyclic (1 ∷ 5 ∷ [])) None ∷
-    -- a write of the reader's own hides the source
-    row (w 1 3 ∷ w 2 3 ∷ w 1 3 ∷ r 2 3 ∷ c 1 ∷ c 2 ∷ []) (1, 4) (cyclic (1 ∷ 2 ∷ [])) None ∷
-    -- a reader of the initial state comes first
-    row (r 2 3 ∷ w 1 3 ∷ c 1 ∷ c 2 ∷ []) (3, 0) (ordered (2 ∷ 1 ∷ [])) (Some (2 ∷ 1 ∷ [])) ∷
-    -- none stands between a source and its reader
-    row (w 1 3 ∷ r 3 3 ∷ w 2 3 ∷ w 4 3 ∷ c 1 ∷ c 2 ∷ c 3 ∷ c 4 ∷ []) (1, 2) (ordered (1 ∷ 3 ∷ 2 ∷ 4 ∷ [])) (Some (1 ∷ 3 ∷ 2 ∷ 4 ∷ [])) ∷
-    -- eight committed cues
-    row (c 8 ∷ c 7 ∷ c 6 ∷ c 5 ∷ c 4 ∷ c 3 ∷ c 2 ∷ w 1 1 ∷ c 1 ∷ []) (3, 0) (ordered (1 ∷ 2 ∷ 3 ∷ 4 ∷ 5 ∷ 6 ∷ 7 ∷ 8 ∷ [])) (Some (1 ∷ 2 ∷ 3 ∷ 4 ∷ 5 ∷ 6 ∷ 7 ∷ 8 ∷ [])) ∷
-    -- a crash before the first commits
-    row (r 1 1 ∷ w 1 1 ∷ r 1 2 ∷ r 2 1 ∷ w 1 2 ∷ r 2 2 ∷ c 2 ∷ r 1 3 ∷ w 1 3 ∷ []) (0, 7) (ordered (2 ∷ [])) (Some (2 ∷ [])) ∷
-    []
-
-pub record SamplesAgree : Type 0 where
-  pub of_axes : AllByRecursion (Agrees axis_alike) axes
-  pub of_marks : AllByRecursion (Agrees mark_alike) marks
-  pub of_interleavings : AllByRecursion (Agrees axis_alike) interleavings
-  pub of_histories : AllByRecursion (Agrees axis_alike) histories
+abbrev pub SamplesAgree : Type 0
+SamplesAgree = AllByRecursion Agrees samples
