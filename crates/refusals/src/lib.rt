@@ -1,9 +1,10 @@
 // Why a call is refused, and the number that each refusal is known by.
 #![tactic(auto)]
 
-ghost use Rattle.std.specs.Prelude.{◌≡◌};
+ghost use Rattle.std.specs.Prelude.{◌≡◌, Some};
 ghost use Rattle.refusals.specs.declared.Layer.TheVariants.{Line, Book};
 ghost use Rattle.refusals.specs.Numbers.{number_of, line_number_of, layer_number_of};
+ghost use Rattle.refusals.specs.Words.{line_words_of, words_of, layer_words_of};
 
 use std::fmt;
 
@@ -99,6 +100,8 @@ impl From<Refusal> for Layer {
 }
 
 impl fmt::Display for LineRefusal {
+    ghost output = { λ f. Some (line_words_of f) };
+
     fn fmt<W: fmt::Write>(&self, f: &mut fmt::Formatter<W>) -> fmt::Result {
         f.write_str(match self {
             LineRefusal::Shape => "the line has not 15 columns",
@@ -112,6 +115,8 @@ impl fmt::Display for LineRefusal {
 }
 
 impl fmt::Display for Refusal {
+    ghost output = { λ f. Some (words_of f) };
+
     fn fmt<W: fmt::Write>(&self, f: &mut fmt::Formatter<W>) -> fmt::Result {
         f.write_str(match self {
             Refusal::NoSuchCue => "the cue number is outside 1 to 64",
@@ -131,6 +136,8 @@ impl fmt::Display for Refusal {
 
 // The words of the refusal, whichever layer it comes from.
 impl fmt::Display for Layer {
+    ghost output = { λ f. Some (layer_words_of f) };
+
     fn fmt<W: fmt::Write>(&self, f: &mut fmt::Formatter<W>) -> fmt::Result {
         match self {
             Layer::Line(refusal) => refusal.fmt(f),

@@ -1,8 +1,8 @@
 // What programs read and print alike: items as single words, as scripts and sample books say them, and rows of numbers.
 #![tactic(auto)]
 
-ghost use Rattle.std.specs.Prelude.{◌≡◌};
-ghost use Rattle.words.specs.Words.{item_in};
+ghost use Rattle.std.specs.Prelude.{◌≡◌, Some};
+ghost use Rattle.words.specs.Words.{item_in, spaced};
 
 use items::Item;
 use std::fmt;
@@ -22,6 +22,8 @@ pub fn item_of<K: Item>(word: &str) -> Option<K>
 pub struct Spaced<'a>(pub &'a [u32]);
 
 impl fmt::Display for Spaced<'_> {
+    ghost output = { λ s. Some (spaced s.0.now) };
+
     fn fmt<W: fmt::Write>(&self, f: &mut fmt::Formatter<W>) -> fmt::Result {
         for number in self.0 {
             write!(f, " {number}")?;
