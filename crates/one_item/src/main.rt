@@ -51,18 +51,20 @@ impl Item for Anything {
 // How many calls a run has here at most.
 const CALLS: usize = 12;
 
-// The second cue reads what the first wrote, though by another number.
-const ONE_WAY: [Call<'static, Anything>; 7] = [
+// The second cue reads what the first wrote, though by another number. The last two are refused.
+const ONE_WAY: [Call<'static, Anything>; 9] = [
     Call::Enter(Entry {
         cue: 1,
         act: Act::Write(Anything { number: 1 }),
     }),
     Call::ReadIn(b"   2 r whatever\n   1 c         \n   2 c         \n"),
     Call::Class,
-    Call::Order,
+    Call::Order(64, 64),
     Call::Why(1, 2),
     Call::Why(2, 1),
-    Call::Views,
+    Call::Views(64),
+    Call::Why(2, 2),
+    Call::ReadIn(b"   2 r"),
 ];
 
 // Two cues write different numbers, and the first then reads: each comes before the other.
@@ -76,8 +78,8 @@ const BOTH_WAYS: [Call<'static, Anything>; 11] = [
     Call::End(1, Ending::Commit),
     Call::End(1, Ending::Commit),
     Call::Class,
-    Call::Order,
-    Call::Views,
+    Call::Order(64, 64),
+    Call::Views(64),
 ];
 
 // An answer as it is printed.

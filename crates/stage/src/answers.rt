@@ -1,4 +1,7 @@
 // The answers to calls, in words.
+ghost use Rattle.std.specs.Prelude.{Some};
+ghost use Rattle.stage.specs.Texts.{row_text, told_text};
+
 use crate::scripts::Lines;
 use history::Ending;
 use runs::{Answer, Failure};
@@ -10,6 +13,8 @@ use words::Spaced;
 struct Row<'a>(&'a [u32]);
 
 impl fmt::Display for Row<'_> {
+    ghost output = { λ r. Some (row_text r.0.now) };
+
     fn fmt<W: fmt::Write>(&self, f: &mut fmt::Formatter<W>) -> fmt::Result {
         let Some((first, rest)) = self.0.split_first() else {
             return f.write_str("no cue is committed");
@@ -23,6 +28,8 @@ impl fmt::Display for Row<'_> {
 pub struct Told<'a>(pub &'a Result<Answer, Failure>);
 
 impl fmt::Display for Told<'_> {
+    ghost output = { λ t. Some (told_text t.0.now) };
+
     fn fmt<W: fmt::Write>(&self, f: &mut fmt::Formatter<W>) -> fmt::Result {
         match self.0 {
             Ok(Answer::Place(place)) => write!(f, "place {place}"),

@@ -9,6 +9,16 @@ use std::alloc::Global;
 use std::str::{FromStr, SplitWhitespace};
 use words::item_of;
 
+// The length of a list or strip of which the script does not say how long it is.
+const LENT: usize = 64;
+
+fn number<T: FromStr>(word: &str, expected: Expected) -> Result<T, Expected>
+where
+    T::Err: Drop,
+{
+    word.parse::<T>().ok().ok_or(expected)
+}
+
 // Reads the next word as a number. Whether there is such a cue or ticket is for the book to say.
 fn next_number<T: FromStr>(
     words: &mut SplitWhitespace<'_>,
@@ -17,8 +27,16 @@ fn next_number<T: FromStr>(
 where
     T::Err: Drop,
 {
-    let word = words.next().ok_or(expected)?;
-    word.parse::<T>().ok().ok_or(expected)
+    number(words.next().ok_or(expected)?, expected)
+}
+
+// Reads the next word as a length, if there is one. Whether that is long enough is for the book
+// to say.
+fn next_length(words: &mut SplitWhitespace<'_>, expected: Expected) -> Result<usize, Expected> {
+    match words.next() {
+        Some(word) => number(word, expected),
+        None => Ok(LENT),
+    }
 }
 
 fn next_cue(words: &mut SplitWhitespace<'_>) -> Result<u32, Expected> {
@@ -27,6 +45,14 @@ fn next_cue(words: &mut SplitWhitespace<'_>) -> Result<u32, Expected> {
 
 fn next_ticket(words: &mut SplitWhitespace<'_>) -> Result<usize, Expected> {
     next_number(words, Expected::Ticket)
+}
+
+fn next_cells(words: &mut SplitWhitespace<'_>) -> Result<usize, Expected> {
+    next_length(words, Expected::Cells)
+}
+
+fn next_bytes(words: &mut SplitWhitespace<'_>) -> Result<usize, Expected> {
+    next_length(words, Expected::Bytes)
 }
 
 fn next_item<K: Kind>(words: &mut SplitWhitespace<'_>) -> Result<K, Expected> {
@@ -99,8 +125,8 @@ fn next_call<'a, K: Kind>(
         "record" => Ok(Call::Record(next_ticket(words)?, next_step(words)?)),
         "end" => Ok(Call::End(next_ticket(words)?, next_ending(words)?)),
         "class" => Ok(Call::Class),
-        "order" => Ok(Call::Order),
-        "views" => Ok(Call::Views),
+        "order" => Ok(Call::Order(next_cells(words)?, next_bytes(words)?)),
+        "views" => Ok(Call::Views(next_cells(words)?)),
         "why" => Ok(Call::Why(next_cue(words)?, next_cue(words)?)),
         _ => Err(no_call(first)),
     }

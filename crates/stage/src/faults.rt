@@ -1,4 +1,7 @@
 // Why a line of a script cannot be read.
+ghost use Rattle.std.specs.Prelude.{Some};
+ghost use Rattle.stage.specs.Texts.{expected_text, fault_text};
+
 use std::alloc::{AllocError, AllocFailed};
 use std::fmt;
 
@@ -12,12 +15,17 @@ pub enum Expected {
     Act,
     Step,
     Ending,
+    // How long a list is, in cells, and how long a strip, in bytes.
+    Cells,
+    Bytes,
     // An item, in the words of its kind.
     Item(&'static str),
     End,
 }
 
 impl fmt::Display for Expected {
+    ghost output = { λ e. Some (expected_text e) };
+
     fn fmt<W: fmt::Write>(&self, f: &mut fmt::Formatter<W>) -> fmt::Result {
         f.write_str(match self {
             Expected::Call => {
@@ -29,6 +37,8 @@ impl fmt::Display for Expected {
             Expected::Act => "r, w, c or a",
             Expected::Step => "r or w",
             Expected::Ending => "c or a",
+            Expected::Cells => "a number of cells",
+            Expected::Bytes => "a number of bytes",
             Expected::Item(words) => *words,
             Expected::End => "no more words",
         })
@@ -43,6 +53,8 @@ pub struct Fault {
 }
 
 impl fmt::Display for Fault {
+    ghost output = { λ f. Some (fault_text f) };
+
     fn fmt<W: fmt::Write>(&self, f: &mut fmt::Formatter<W>) -> fmt::Result {
         write!(f, "line {}: expected {}", self.line, self.expected)
     }

@@ -1,4 +1,7 @@
 // A script, cut into what it says: a call to a line, and under a sheet the lines of the sheet.
+ghost use Rattle.std.specs.Prelude.{◌≡◌, ◌==◌, Some, codes, bytes_eq, count_by};
+ghost use Rattle.stage.specs.Texts.{lines_text, said_text};
+
 use std::alloc::{AllocError, Global};
 use std::fmt;
 
@@ -15,6 +18,8 @@ pub struct Said<'a> {
 pub struct Lines(pub usize);
 
 impl fmt::Display for Lines {
+    ghost output = { λ l. Some (lines_text l.0) };
+
     fn fmt<W: fmt::Write>(&self, f: &mut fmt::Formatter<W>) -> fmt::Result {
         match self.0 {
             1 => f.write_str("1 line"),
@@ -24,7 +29,9 @@ impl fmt::Display for Lines {
 }
 
 impl Said<'_> {
-    fn is_sheet(&self) -> bool {
+    fn is_sheet(&self) -> bool
+        ensures { result ≡ bytes_eq self.now.words.now (codes "sheet") }
+    {
         self.words == "sheet"
     }
 
@@ -36,12 +43,16 @@ impl Said<'_> {
     }
 
     // How many lines the sheet has.
-    fn lines(&self) -> Lines {
+    fn lines(&self) -> Lines
+        ensures { result.0 ≡ count_by (λ b. b == 10) self.now.sheet.items }
+    {
         Lines(self.sheet.iter().filter(|b| **b == b'\n').count())
     }
 }
 
 impl fmt::Display for Said<'_> {
+    ghost output = { λ s. Some (said_text s.words.now s.sheet.items) };
+
     fn fmt<W: fmt::Write>(&self, f: &mut fmt::Formatter<W>) -> fmt::Result {
         if self.is_sheet() {
             write!(f, "sheet of {}", self.lines())
