@@ -1,7 +1,9 @@
 #!/bin/sh
-# Shows that the compiler refuses each misuse of a ticket in tools/misuses/ because the ticket was moved by then, and takes the program
-# without a misuse. A misuse is a change of the program crates/tickets: a line 'old: TEXT' that stands once in it, and 'new: TEXT' in its
-# place. Nothing is proved here: `rt try` compiles and runs.
+# Shows that the compiler refuses each misuse of a ticket in tools/misuses/ for the reason that the
+# misuse names, and for nothing else, and that it takes the program without a misuse. A misuse is a
+# change of the program crates/tickets: a line 'old: TEXT' that stands once in it, 'new: TEXT' in
+# its place, and '# refused: WORDS', with which the compiler's one error goes on after the place in
+# the source. Nothing is proved here: `rt try` compiles and runs.
 set -eu
 cd "$(dirname "$0")/.."
 
@@ -16,6 +18,11 @@ said() {
     (cd "$dir/crates/tickets" && rt try) >"$dir/said" 2>&1
 }
 
+# refused WORDS: the program is not taken, and what is said is one error, which has these words
+refused() {
+    ! said && [ "$(grep -c 'error\[' "$dir/said")" -eq 1 ] && grep -qF ": $1" "$dir/said"
+}
+
 if ! said; then
     echo "crates/tickets is not taken without a misuse:"
     tail -5 "$dir/said"
@@ -23,6 +30,12 @@ if ! said; then
 fi
 status=0
 for misuse in tools/misuses/*.edit; do
+    reason=$(sed -n 's/^# refused: \(error\[[a-z0-9-]*\]: .*\)/\1/p' "$misuse")
+    if [ -z "$reason" ]; then
+        echo "$misuse does not say why it is refused"
+        status=1
+        continue
+    fi
     python3 - "$misuse" "$dir/main.rt" "$program" <<'PY'
 import sys
 edit, program, to = sys.argv[1:]
@@ -38,10 +51,10 @@ for o, n in zip(old, new):
     text = text.replace(o, n)
 open(to, "w", encoding="utf-8").write(text)
 PY
-    if ! said && grep -q 'borrow-e0382' "$dir/said"; then
-        echo "refused  $misuse: $(grep -m1 'borrow-e0382' "$dir/said")"
+    if refused "$reason"; then
+        echo "refused  $misuse: $(grep -m1 'error\[' "$dir/said")"
     else
-        echo "NOT REFUSED  $misuse"
+        echo "NOT REFUSED for its reason  $misuse"
         tail -5 "$dir/said"
         status=1
     fi
