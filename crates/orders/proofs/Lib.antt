@@ -1,6 +1,10 @@
 pub mod Among
+pub mod ByIndex
+pub mod Dictionary
 pub mod First
 pub mod Extending
 pub mod Leasts
+pub mod Listed
+pub mod OneLeast
 pub mod Precedence
 pub mod Same

@@ -1,7 +1,7 @@
 -- What comes before what in an order.
-use Rattle.std.proofs.Common.{◌≡◌, ℕ, zero, suc, ◌<◌, Bool, true, false, cond, ◌||◌, eqb, ◌⊎◌, List, [], ◌∷◌, Some, sym, refl, ap, ◌∙◌, inl, inr, arith}
+use Rattle.std.proofs.Common.{◌≡◌, ℕ, zero, suc, ◌<◌, Bool, true, false, cond, ◌||◌, eqb, ◌⊎◌, List, [], ◌∷◌, Some, sym, refl, ap, ◌∙◌, subst, inl, inr, arith}
 use Rattle.std.specs.List.{slice_get}
-use Rattle.std.proofs.lemmas.Bool.{false≢true, both_ways, cases_Bool, cond-true, cond-false, eq-eqb, eqb-true, ne_eqb, or_left, or_right}
+use Rattle.std.proofs.lemmas.Bool.{false≢true, both_ways, cases_Bool, cond-true, cond-false, eq-eqb, eqb-true, ne_eqb, or_cases, or_left, or_right}
 use Rattle.lists.specs.Lists.{has}
 use Rattle.orders.specs.Orders.{without, precedes}
 use Rattle.lists.proofs.Places.{some_at, at_some}
@@ -53,6 +53,10 @@ stands_has m [] h = absurd h
 stands_has m (u ∷ us) (inl e) = or_left (eqb u m) (has m us) (eq-eqb u m e)
 stands_has m (u ∷ us) (inr h) = or_right (eqb u m) (has m us) (stands_has m us h)
 
+pub has_stands : (m : ℕ) (us : List ℕ) → has m us ≡ true → Stands m us
+has_stands m [] h = absurd (false≢true h)
+has_stands m (u ∷ us) h = elim (or_cases (eqb u m) (has m us) h) [ inl t ↦ inl (eqb-true u m t) | inr k ↦ inr (has_stands m us k) ]
+
 has_without : (x : ℕ) (us : List ℕ) → has x (without x us) ≡ false
 has_without x [] = refl
 has_without x (u ∷ us) = elim (cases_Bool (eqb u x)) [ inl t ↦ rw t (has_without x us) | inr f ↦ rw f (rw f (has_without x us)) ]
@@ -80,6 +84,19 @@ rearranged_has us (x ∷ o) h m =
 pub rearranged_distinct : (us o : List ℕ) → Rearranges us o → Distinct o
 rearranged_distinct us [] h = tt
 rearranged_distinct us (x ∷ o) h = (rearranged_has (without x us) o h.1 x ∙ has_without x us, rearranged_distinct (without x us) o h.1)
+
+-- and numbers that are the same, each once, are a rearrangement
+pub rearranges_same : (us o : List ℕ) → Distinct o → ((m : ℕ) → has m o ≡ has m us) → Rearranges us o
+rearranges_same [] [] d same = refl
+rearranges_same (u ∷ us) [] d same = absurd (false≢true (same u ∙ has_first u us))
+rearranges_same us (x ∷ o) d same = (
+  has_stands x us (sym (same x) ∙ has_first x o),
+  rearranges_same (without x us) o d.1
+      (λ m. elim (cases_Bool (eqb x m)) [
+        | inl t ↦ let e : x ≡ m = eqb-true x m t in subst (λ (n : ℕ). has n o ≡ has n (without x us)) e (d.0 ∙ sym (has_without x us))
+        | inr f ↦ sym (ap (λ (b : Bool). b || has m o) f) ∙ same m ∙ sym (without_other x m us f)
+      ]),
+)
 
 -- the test tells of the cells
 pub precedes_comes : (a b : ℕ) (o : List ℕ) → precedes a b o ≡ true → ComesBefore a b o

@@ -1,16 +1,9 @@
 -- Two tests that agree on every rearrangement have the same first order. Assumes nothing.
-use Rattle.std.proofs.Common.{◌≡◌, ℕ, Bool, List, [], ◌∷◌, Some, None, Option, sym, refl, ap, ◌∙◌, inl, inr, arith}
+use Rattle.std.proofs.Common.{◌≡◌, ℕ, Bool, List, Some, None, Option, sym, refl, ap, ◌∙◌, inl, inr}
 use Rattle.orders.specs.Orders.{among, first_where, orders}
-use Rattle.orders.specs.Least.{Rearranges, Before}
+use Rattle.orders.specs.Least.{Rearranges}
+use Rattle.orders.proofs.Dictionary.{before_once}
 use Rattle.orders.proofs.Leasts.{first_is_least, none_is_none}
-
-before_once : (o p : List ℕ) → Before o p → Before p o → ⊥
-before_once [] p h k = h
-before_once (x ∷ o) [] h k = h
-before_once (x ∷ o) (y ∷ p) (inl h) (inl k) = omega arith
-before_once (x ∷ o) (y ∷ p) (inl h) (inr k) = omega (arith, k.0)
-before_once (x ∷ o) (y ∷ p) (inr h) (inl k) = omega (arith, h.0)
-before_once (x ∷ o) (y ∷ p) (inr h) (inr k) = before_once o p h.1 k.1
 
 module _ (has : ℕ → Bool) (p q : List ℕ → Bool) (same : (o : List ℕ) → Rearranges (among has) o → p o ≡ q o) where
   both_firsts : (a b : Option (List ℕ)) → first_where p (orders (among has)) ≡ a → first_where q (orders (among has)) ≡ b → a ≡ b
