@@ -8,9 +8,15 @@ use Rattle.history.specs.declared.Act.TheVariants.{Read, Write, Commit, Abort}
 use Rattle.history.specs.declared.Entry.{Entry}
 use Rattle.history.specs.Entries.{is_cue, is_commit, is_abort, by, acted, committed, aborted, ended}
 use Rattle.history.specs.Conflicts.{reads, writes, touches}
-use Rattle.history.specs.Places.{entry_at, entries_before, EntryIs, item_read, item_written, DidBefore, CommittedBefore, AbortedBefore, EndedBefore}
+use Rattle.history.specs.Places.{IsCue, entry_at, entries_before, EntryIs, item_read, item_written, DidBefore, CommittedBefore, AbortedBefore, EndedBefore}
 use Rattle.history.proofs.Committed.{is_cue_lem, cue_low, cue_high}
 use Rattle.history.proofs.Endings.{ended_either}
+
+pub cue_is : (n : ℕ) → is_cue n ≡ true → IsCue n
+cue_is n h = record { low = cue_low n h; high = cue_high n h }
+
+pub is_of_cue : (n : ℕ) → IsCue n → is_cue n ≡ true
+is_of_cue n h = is_cue_lem n h.low h.high
 
 module _ {K : Type 0} where
   pub at_before : (es : List (Entry K)) (q p : ℕ) (e : Entry K) → entry_at (entries_before q es) p ≡ Some e → (p < q) × (entry_at es p ≡ Some e)
@@ -37,15 +43,14 @@ module _ {K : Type 0} where
         let t = and_parts (eqb e.cue n) (test e.act) r.3 in
         let there = at_before es q (suc r.0) e r.2 in
         record {
-          low = cue_low n s.0;
-          high = cue_high n s.0;
+          cue = cue_is n s.0;
           place = suc r.0;
           before = there.0;
           entry = entry_is es (suc r.0) n a e there.1 (eqb-true e.cue n t.0) (only e.act t.1);
         }
 
-    before_did : test a ≡ true → DidBefore es q n a → acted test (entries_before q es) n ≡ true
-    before_did passes d = and_from (is_cue n) (some (by n test) (entries_before q es)) (is_cue_lem n d.low d.high) (go d.place d.before d.entry)
+    pub before_did : test a ≡ true → DidBefore es q n a → acted test (entries_before q es) n ≡ true
+    before_did passes d = and_from (is_cue n) (some (by n test) (entries_before q es)) (is_of_cue n d.cue) (go d.place d.before d.entry)
       where
         go : (p : ℕ) → p < q → EntryIs es p n a → some (by n test) (entries_before q es) ≡ true
         go zero l h = cc
@@ -68,6 +73,9 @@ module _ {K : Type 0} where
 
   pub act_commit : (b : Act K) → is_commit b ≡ true → b ≡ Commit
   act_commit b h = only_commit b h
+
+  pub act_abort : (b : Act K) → is_abort b ≡ true → b ≡ Abort
+  act_abort b h = only_abort b h
 
   module _ (es : List (Entry K)) (q n : ℕ) where
     pub committed_before : committed (entries_before q es) n ≡ true → CommittedBefore es q n

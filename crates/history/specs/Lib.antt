@@ -4,5 +4,6 @@ pub mod Marked
 pub mod Conflicts
 pub mod Places
 pub mod Order
+pub mod Cues
 pub mod Views
 pub mod Answers

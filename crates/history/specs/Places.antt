@@ -1,5 +1,6 @@
 -- Entries by their places, which count from 1, and what stands before a place.
 --
+--   IsCue n                 == n is the number of a cue: it is from 1 to 64
 --   entry_at es p           == the entry at place p, if there is one
 --   entries_before q es     == the entries before place q
 --   EntryIs es p n a        == the entry at place p is of cue n, and its act is a
@@ -14,6 +15,10 @@ use Rattle.std.specs.Prelude.{slice_get}
 use Rattle.history.specs.declared.Act.{Act}
 use Rattle.history.specs.declared.Act.TheVariants.{Read, Write, Commit, Abort}
 use Rattle.history.specs.declared.Entry.{Entry}
+
+pub record IsCue (n : ℕ) : Type 0 where
+  pub low : 1 ≤ n
+  pub high : n ≤ 64
 
 module _ {K : Type 0} where
   abbrev pub entry_at : List (Entry K) → ℕ → Option (Entry K)
@@ -51,8 +56,7 @@ module _ {K : Type 0} where
     pub item : item_written act ≡ Some k
 
   pub record DidBefore (es : List (Entry K)) (q n : ℕ) (a : Act K) : Type 0 where
-    pub low : 1 ≤ n
-    pub high : n ≤ 64
+    pub cue : IsCue n
     pub place : ℕ
     pub before : place < q
     pub entry : EntryIs es place n a

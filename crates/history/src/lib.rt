@@ -3,6 +3,7 @@
 
 ghost use Rattle.std.specs.Prelude.{◌≡◌, ℕ, true};
 ghost use Rattle.history.specs.Conflicts.{conflict, writes};
+ghost use Rattle.history.specs.Cues.{CueIsTold, EndingIsTold};
 ghost use Rattle.history.specs.Endings.{act_of};
 ghost use Rattle.history.specs.Entries.{is_cue, is_commit, is_abort, ends, acted, committed, ended, opened};
 ghost use Rattle.history.specs.Marked.{marked};
@@ -158,4 +159,14 @@ pub fn conflicts<K: Item>(x: &Entry<K>, y: &Entry<K>) -> bool
 // committed cues, it has the cue of the earlier entry before that of the later one.
 pub fn keeps_stands<K>()
     ensures { KeepsIsKeepsConflicts K }
+{}
+
+// That the tests of a number say what its entries say, whichever number it is. It is a cue from 1
+// to 64. It has an entry, a commit, an abort, an ending exactly when such an entry stands at some
+// place. It is open when it has an entry and no ending. A table has it when its cell is set, and
+// it is listed as committed, in rising order, when it has a commit. And that a commit and an abort
+// end a cue, no other act does, and each is the act of the ending of its name.
+pub fn cue_is_told<K>()
+    ensures cue { CueIsTold K }
+    ensures ending { EndingIsTold K }
 {}
