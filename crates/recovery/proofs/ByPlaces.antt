@@ -14,6 +14,7 @@ use Rattle.history.specs.Conflicts.{reads, writes}
 use Rattle.history.specs.Places.{entry_at, entries_before, EntryIs, item_read, ReadsAt, WritesAt, AbortedBefore}
 use Rattle.history.proofs.Places.{at_before, before_at, entry_is, act_commit, committed_before, before_committed, aborted_before, before_aborted, ended_before, before_ended, not_fact, fact_not, reads_item, item_reads, writes_item, item_writes, touches_either}
 use Rattle.recovery.specs.declared.Class.{Class}
+use Rattle.recovery.specs.declared.Class.TheVariants.{NotRecoverable, Recoverable, Cascadeless, Strict}
 use Rattle.recovery.specs.Breaks.{by_other, found_by, breaks, source, reads_from, breaks_recoverable, breaks_cascadeless, breaks_strict}
 use Rattle.recovery.specs.Classes.{ranked, first_break, class_of}
 use Rattle.recovery.specs.ReadsFrom.{Never, IsFirstBreak, ReadsFrom, StrictnessBreaks, CascadelessnessBreaks, RecoverabilityBreaks, IsClass}
@@ -126,7 +127,7 @@ module _ {K : Type 0} (alike : K → K → Bool) (es : List (Entry K)) where
   abbrev uncommitted : ℕ → ℕ → Bool
   uncommitted q j = not (committed (entries_before q es) j)
 
-  cascadeless_to : (q : ℕ) → breaks (breaks_cascadeless alike) es q ≡ true → CascadelessnessBreaks alike es q
+  pub cascadeless_to : (q : ℕ) → breaks (breaks_cascadeless alike) es q ≡ true → CascadelessnessBreaks alike es q
   cascadeless_to q h =
       let at = rule_at (breaks_cascadeless alike) es q h in
       let r = reads_from_to (uncommitted q) q at.0 at.1 at.2 in
@@ -139,7 +140,7 @@ module _ {K : Type 0} (alike : K → K → Bool) (es : List (Entry K)) where
         uncommitted = not_fact (committed (entries_before q es) r.0) (before_committed es q r.0) r.4;
       }
 
-  cascadeless_from : (q : ℕ) → CascadelessnessBreaks alike es q → breaks (breaks_cascadeless alike) es q ≡ true
+  pub cascadeless_from : (q : ℕ) → CascadelessnessBreaks alike es q → breaks (breaks_cascadeless alike) es q ≡ true
   cascadeless_from q b =
       let e : Entry K = record { cue = b.cue; act = b.reads.reader.act } in
       at_rule (breaks_cascadeless alike) es q e b.reads.reader.entry
@@ -176,7 +177,7 @@ module _ {K : Type 0} (alike : K → K → Bool) (es : List (Entry K)) where
         uncommitted = not_fact (committed seen from.0) (before_committed es q from.0) from.4;
       }
 
-  recoverable_from : (q : ℕ) → RecoverabilityBreaks alike es q → breaks (breaks_recoverable alike) es q ≡ true
+  pub recoverable_from : (q : ℕ) → RecoverabilityBreaks alike es q → breaks (breaks_recoverable alike) es q ≡ true
   recoverable_from q b = at_rule (breaks_recoverable alike) es q (record { cue = b.cue; act = Commit }) b.commits (go b.read b.earlier b.reads)
     where
       go : (read : ℕ) → read < q → ReadsFrom alike es b.cue b.other b.place read → somewhere (owed q b.cue) [] (entries_before q es) ≡ true
@@ -216,7 +217,7 @@ module _ {K : Type 0} (alike : K → K → Bool) (es : List (Entry K)) where
         unended = not_fact (ended seen w.cue) (before_ended es q w.cue) both.1;
       }
 
-  strict_to : (q : ℕ) → breaks (breaks_strict alike) es q ≡ true → StrictnessBreaks alike es q
+  pub strict_to : (q : ℕ) → breaks (breaks_strict alike) es q ≡ true → StrictnessBreaks alike es q
   strict_to q h =
       let at = rule_at (breaks_strict alike) es q h in
       let e = at.0 in
@@ -301,9 +302,35 @@ breaks_are_by_places K =
       recoverable = λ alike es q. (recoverable_to alike es q, recoverable_from alike es q);
     }
 
-pub class_is_by_places : (K : Type 0) → ClassIsByPlaces K
-class_is_by_places K alike es = class_is alike es (first_break (breaks_recoverable alike) es) (first_break (breaks_cascadeless alike) es) (first_break (breaks_strict alike) es) refl refl refl
+-- an answer that is that class is right
+pub class_right : {K : Type 0} (alike : K → K → Bool) (es : List (Entry K)) (c : Class) → c ≡ class_of alike es → IsClass alike es c
+class_right alike es c is =
+    subst (IsClass alike es) (sym is) (class_is alike es (first_break (breaks_recoverable alike) es) (first_break (breaks_cascadeless alike) es) (first_break (breaks_strict alike) es) refl refl refl)
 
--- so an answer that is that class is right
-pub class_right : {K : Type 0} (alike : K → K → Bool) (es : List (Entry K)) (r : Class) → r ≡ class_of alike es → IsClass alike es r
-class_right {K} alike es r is = subst (IsClass alike es) (sym is) (class_is_by_places K alike es)
+-- a rule breaks first at one place alone
+pub one_first : (Breaks : ℕ → Type 0) (p q : ℕ) → IsFirstBreak Breaks p → IsFirstBreak Breaks q → p ≡ q
+one_first Breaks p q h k = let l = h.first q k.breaks in let m = k.first p h.breaks in omega arith
+
+-- and no other class is right
+module _ {K : Type 0} (alike : K → K → Bool) (es : List (Entry K)) where
+  one_class : (c d : Class) → IsClass alike es c → IsClass alike es d → c ≡ d
+  one_class (NotRecoverable p) (NotRecoverable q) h k = ap NotRecoverable (one_first (RecoverabilityBreaks alike es) p q h k)
+  one_class (NotRecoverable p) (Recoverable q) h k = absurd (k.1 p h.breaks)
+  one_class (NotRecoverable p) (Cascadeless q) h k = absurd (k.2 p h.breaks)
+  one_class (NotRecoverable p) Strict h k = absurd (k.2 p h.breaks)
+  one_class (Recoverable p) (NotRecoverable q) h k = absurd (h.1 q k.breaks)
+  one_class (Recoverable p) (Recoverable q) h k = ap Recoverable (one_first (CascadelessnessBreaks alike es) p q h.0 k.0)
+  one_class (Recoverable p) (Cascadeless q) h k = absurd (k.1 p h.0.breaks)
+  one_class (Recoverable p) Strict h k = absurd (k.1 p h.0.breaks)
+  one_class (Cascadeless p) (NotRecoverable q) h k = absurd (h.2 q k.breaks)
+  one_class (Cascadeless p) (Recoverable q) h k = absurd (h.1 q k.0.breaks)
+  one_class (Cascadeless p) (Cascadeless q) h k = ap Cascadeless (one_first (StrictnessBreaks alike es) p q h.0 k.0)
+  one_class (Cascadeless p) Strict h k = absurd (k.0 p h.0.breaks)
+  one_class Strict (NotRecoverable q) h k = absurd (h.2 q k.breaks)
+  one_class Strict (Recoverable q) h k = absurd (h.1 q k.0.breaks)
+  one_class Strict (Cascadeless q) h k = absurd (h.0 q k.0.breaks)
+  one_class Strict Strict h k = refl
+
+pub class_is_by_places : (K : Type 0) → ClassIsByPlaces K
+class_is_by_places K alike es c =
+    (λ h. one_class alike es c (class_of alike es) h (class_right alike es (class_of alike es) refl), class_right alike es c)

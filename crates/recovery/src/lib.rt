@@ -7,7 +7,9 @@ ghost use Rattle.recovery.specs.Classes.{class_number, class_place, class_of};
 ghost use Rattle.recovery.specs.ReadsFrom.{IsClass};
 ghost use Rattle.recovery.specs.Rules.{Computes};
 ghost use Rattle.recovery.specs.Laws.{BreaksStay, FirstBreak, BreaksComeTogether, ClassNeverRises};
-ghost use Rattle.recovery.specs.Laws.{SourceIsReadFrom, BreaksAreByPlaces, ClassIsByPlaces};
+ghost use Rattle.recovery.specs.Laws.{SourceIsReadFrom, BreaksAreByPlaces, ClassIsByPlaces, ClassIsNumbered};
+ghost use Rattle.recovery.specs.Laws.{SerialIsStrict};
+ghost use Rattle.recovery.specs.Laws.{ReadHasOneSource, OwnWriteIsRead, BreaksAreAtTheirActs};
 
 mod endings;
 mod past;
@@ -113,4 +115,9 @@ pub fn laws_hold<K>()
     ensures source { SourceIsReadFrom K }
     ensures places { BreaksAreByPlaces K }
     ensures class { ClassIsByPlaces K }
+    ensures numbers { ClassIsNumbered K }
+    ensures one { ReadHasOneSource K }
+    ensures own { OwnWriteIsRead K }
+    ensures acts { BreaksAreAtTheirActs K }
+    ensures serial { SerialIsStrict K }
 {}
