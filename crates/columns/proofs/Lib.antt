@@ -1,3 +1,4 @@
 pub mod Blanks
 pub mod Numbers
 pub mod Unbroken
+pub mod NumbersAreTexts

@@ -10,7 +10,7 @@ use Rattle.columns.specs.Columns.{after_blanks, justified, well_written, value_f
 use Rattle.columns.proofs.Blanks.{no_blanks, after_blanks_le, after_blanks_justified, justified_after_blanks, justified_push, justified_none}
 
 -- all digits, and their value, are the library's words too
-own : IsNumeralModel (λ ds. every is_digit ds ≡ true) (value_from 0)
+pub own : IsNumeralModel (λ ds. every is_digit ds ≡ true) (value_from 0)
 own = numerals_by_fold _ (search rules) value_from (search rules)
 
 -- digits, some, and a leading zero only alone

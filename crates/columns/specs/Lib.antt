@@ -1,2 +1,3 @@
 pub mod Symbols
 pub mod Columns
+pub mod NumbersAreTexts

@@ -6,6 +6,8 @@ ghost use Rattle.std.specs.List.{prefix_len};
 ghost use Rattle.lists.specs.Lists.{every};
 ghost use Rattle.columns.specs.Symbols.{is};
 ghost use Rattle.columns.specs.Columns.{after_blanks, digits_from, number, up_to, number_in};
+ghost use Rattle.columns.specs.NumbersAreTexts.{DigitsAndLetters, TextsAreJustified};
+ghost use Rattle.columns.specs.NumbersAreTexts.{NumbersAreTheirTexts};
 
 // The two tests of a byte that fields and their definitions share: an enum and no closure, since the definitions name them too.
 #[derive(Clone, Copy)]
@@ -89,3 +91,11 @@ pub fn write_number(n: u32, field: &mut [u8])
         }
     }
 }
+
+// That a field holds a number exactly when it is blanks and then the number as it is written, that
+// texts are written right-justified, and which bytes are digits and letters.
+pub fn numbers_are_their_texts()
+    ensures symbols { DigitsAndLetters }
+    ensures texts { TextsAreJustified }
+    ensures numbers { NumbersAreTheirTexts }
+{}

@@ -6,3 +6,4 @@ pub mod FieldsLemmas
 pub mod WordsLemmas
 pub mod Letters
 pub mod Marks
+pub mod ItemsAreTexts

@@ -22,6 +22,9 @@ ghost use Rattle.items.specs.WordsLemmas.{word_letters, word_length, word_some, 
 ghost use Rattle.items.specs.declared.Mark.{Mark};
 ghost use Rattle.items.specs.Words;
 ghost use Rattle.items.specs.Marks.{Word, mark_in_lem, word_parts};
+ghost use Rattle.items.specs.ItemsAreTexts.{AxesAreTheirTexts, CaseIsIgnored};
+ghost use Rattle.items.specs.ItemsAreTexts.{LettersAreNumbered, MarksAreWords};
+ghost use Rattle.items.specs.ItemsAreTexts.{MarksAreTheirTexts};
 
 use columns::{after_blanks, read_number, write_number};
 
@@ -253,3 +256,15 @@ impl Exact for Mark {
         ∙ ap (λ (n : ℕ). justified n w) (sym l)
         ∙ justified_after_blanks bs };
 }
+
+// That two axes are the same exactly when they are written the same, and two marks exactly when they
+// are written the same with the case of letters ignored; that eight columns are read as an item
+// exactly when they are what is written of it; that each number from 0 to 65535 is an axis of its
+// own, and each word of 1 to 8 letters that of exactly one mark, in the order of the words.
+pub fn items_are_their_texts()
+    ensures axes { AxesAreTheirTexts }
+    ensures cases { CaseIsIgnored }
+    ensures letters { LettersAreNumbered }
+    ensures words { MarksAreWords }
+    ensures marks { MarksAreTheirTexts }
+{}
