@@ -26,11 +26,11 @@ use Rattle.lines.specs.Writing.{space_rewritten, space_copied}
 use Rattle.lines.proofs.Cutting.{cut_whole, cut_well, whole_long}
 
 -- the first n of a list, one by one
-abbrev listed : ℕ → List ℕ → List ℕ
+abbrev pub listed : ℕ → List ℕ → List ℕ
 listed zero xs = []
 listed (suc n) xs = get_or xs 0 0 ∷ listed n (drop 1 xs)
 
-take_listed : (n : ℕ) (xs : List ℕ) → n ≤ length xs → take n xs ≡ listed n xs
+pub take_listed : (n : ℕ) (xs : List ℕ) → n ≤ length xs → take n xs ≡ listed n xs
 take_listed zero xs h = refl
 take_listed (suc n) [] h = absurd (omega arith)
 take_listed (suc n) (x ∷ xs) h = ap (λ ys. x ∷ ys) (take_listed n xs (omega arith))
@@ -39,7 +39,7 @@ listed_all : (n : ℕ) (xs : List ℕ) → length xs ≡ n → listed n xs ≡ x
 listed_all n xs h = sym (take_listed n xs (omega arith)) ∙ take_all n xs (omega arith)
 
 -- the bytes of a line, by its fields
-abbrev line_by : List ℕ → ℕ → List ℕ → List ℕ
+abbrev pub line_by : List ℕ → ℕ → List ℕ → List ℕ
 line_by cue letter item = cue ++ (32 ∷ letter ∷ 32 ∷ item) ++ 10 ∷ []
 
 abbrev fields_by : List ℕ → ℕ → List ℕ → CutLine
@@ -47,7 +47,7 @@ fields_by cue letter item = record { cue = field_of 1 cue; letter = field_of 6 (
 
 module _ (cue item rest : List ℕ) (letter : ℕ) (four : length cue ≡ 4) (eight : length item ≡ 8) where
   -- what holds of fields byte by byte
-  by_bytes : (P : List ℕ → List ℕ → Type 0) → P (listed 4 cue) (listed 8 item) → P cue item
+  pub by_bytes : (P : List ℕ → List ℕ → Type 0) → P (listed 4 cue) (listed 8 item) → P cue item
   by_bytes P h = subst (λ xs. P xs item) (listed_all 4 cue four) (subst (λ xs. P (listed 4 cue) xs) (listed_all 8 item eight) h)
 
   length_line : length (line_by cue letter item) ≡ 16
@@ -142,7 +142,7 @@ blank_nothing field [] e h = refl
 blank_nothing field (b ∷ bs) e h = absurd (false≢true (rw e at h))
 
 -- a blank field holds blanks
-blank_all : (field : List ℕ) → length field ≡ 8 → blank field ≡ true → replicate 8 32 ≡ field
+pub blank_all : (field : List ℕ) → length field ≡ 8 → blank field ≡ true → replicate 8 32 ≡ field
 blank_all field eight h =
     sym (justified_none 8)
     ∙ ap (justified 8) (sym (blank_nothing field (after_blanks field) refl h))
@@ -150,7 +150,7 @@ blank_all field eight h =
     ∙ justified_after_blanks field
 
 -- the first 16 bytes, by the fields and the columns between them
-line_parts : (bs : List ℕ) → 16 ≤ length bs → between 0 4 bs ++ (get_or bs 4 0 ∷ get_or (between 5 6 bs) 0 0 ∷ get_or bs 6 0 ∷ between 7 15 bs) ++ get_or bs 15 0 ∷ [] ≡ take 16 bs
+pub line_parts : (bs : List ℕ) → 16 ≤ length bs → between 0 4 bs ++ (get_or bs 4 0 ∷ get_or (between 5 6 bs) 0 0 ∷ get_or bs 6 0 ∷ between 7 15 bs) ++ get_or bs 15 0 ∷ [] ≡ take 16 bs
 line_parts bs h =
     subst (λ xs. between 0 4 xs ++ (get_or xs 4 0 ∷ get_or (between 5 6 xs) 0 0 ∷ get_or xs 6 0 ∷ between 7 15 xs) ++ get_or xs 15 0 ∷ [] ≡ take 16 xs)
     (ap (λ xs. xs ++ drop 16 bs) (sym (take_listed 16 bs h)) ∙ take-append-drop 16 bs)

@@ -21,7 +21,7 @@ pub data Filling : Type 0 where
   blanks : Filling
   other : Filling
 
-abbrev filling_after : List ℕ → Filling
+abbrev pub filling_after : List ℕ → Filling
 filling_after [] = blanks
 filling_after (b ∷ bs) = cond (every is_digit (b ∷ bs)) digits (cond (every is_letter (b ∷ bs)) letters other)
 

@@ -103,7 +103,7 @@ module _ {K : Type 0} where
   space_rewritten text (Err f) space = space
 
   -- whether a line was copied, by the answer to rewriting it
-  abbrev copied_by : Result (Option (Entry K)) Layer → Result Bool Layer
+  abbrev pub copied_by : Result (Option (Entry K)) Layer → Result Bool Layer
   copied_by (Ok found) = Ok (is_some found)
   copied_by (Err f) = Err f
 

@@ -1,6 +1,7 @@
 // Cutting a line into its fields.
 ghost use Rattle.std.specs.Prelude.{◌≡◌, ◌≤◌, length};
 ghost use Rattle.lines.specs.Cutting.{whole, field_of, spaced_in, cut_of, seen, viewed_cut};
+ghost use Rattle.lines.specs.CutIsTold.{CutIsTold};
 
 use crate::LINE;
 use columns::{Symbol, after_blanks};
@@ -93,3 +94,11 @@ pub fn cut(sheet: &[u8]) -> Result<Option<Fields<'_>>, LineRefusal>
         spaced: is_spaced(sheet),
     }))
 }
+
+// That the first line of a sheet is cut into the fields of columns 1 to 4, of column 6 and of
+// columns 8 to 15, each with its column, its bytes and the case that says what stands after its
+// blanks; that it is spaced exactly when columns 5 and 7 are blank; and that what is no line is
+// refused, unless nothing remains.
+pub fn cut_is_told()
+    ensures { CutIsTold }
+{}

@@ -5,6 +5,7 @@ ghost use Rattle.refusals.specs.declared.LineRefusal.TheVariants.{CueField, Item
 ghost use Rattle.columns.specs.Columns.{number};
 ghost use Rattle.lines.specs.Cutting.{WellCut, seen, viewed};
 ghost use Rattle.lines.specs.Reading.{blank, act_in, entry_in, next_in};
+ghost use Rattle.lines.specs.LineIsTold.{LineIsTold};
 
 use crate::cuts::{Field, Fields, cut};
 use columns::read_number;
@@ -98,3 +99,10 @@ pub fn read_line<K: Item>(sheet: &[u8]) -> Result<Option<Entry<K>>, LineRefusal>
         Some(fields) => Ok(Some(Line { fields }.entry()?)),
     }
 }
+
+// That a line says the entry whose cue is the number in columns 1 to 4, whose act has its letter in
+// column 6, between blanks, and whose item columns 8 to 15 hold; that it is refused by the first of
+// these that it does not have; and that reading gives what the line says and nothing else.
+pub fn line_is_told<K: Item>()
+    ensures { LineIsTold K.Item.parsed }
+{}

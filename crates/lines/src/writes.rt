@@ -4,6 +4,7 @@ ghost use Rattle.std.specs.Prelude.{is_ok, IfOk, IfSome};
 ghost use Rattle.lines.specs.Writing.{letter_of, item_of, line_written, space_after};
 ghost use Rattle.lines.specs.Writing.{ReadsBack, WritesBack, copied, space_copied};
 ghost use Rattle.lines.specs.Writing.{rewritten, space_rewritten};
+ghost use Rattle.lines.specs.WritingIsTold.{WritingIsTold, RewritingIsTold};
 
 use crate::LINE;
 use crate::reads::read_line;
@@ -102,4 +103,13 @@ pub fn copy_line<K: Exact>(sheet: &[u8], space: &mut [u8]) -> Result<bool, Layer
 // That sixteen bytes which are read as an entry are the bytes of the line that is written of it.
 pub fn line_writes_back<K: Exact>()
     ensures { WritesBack K.Item.parsed K.Item.text }
+{}
+
+// That an entry is refused for its cue, outside 1 to 64, or else for a space of fewer than 16
+// bytes; that its line has the cue in columns 1 to 4, the act's letter in column 6, between blanks,
+// the item in columns 8 to 15 and then a line feed; that this line is left in the first 16 bytes of
+// the space and nothing else is changed there; and that lines are rewritten and copied accordingly.
+pub fn writing_is_told<K: Item>()
+    ensures writing { WritingIsTold K.Item.text }
+    ensures rewriting { RewritingIsTold K.Item.parsed K.Item.text }
 {}
