@@ -4,6 +4,7 @@
 ghost use Rattle.std.specs.Prelude.{◌≡◌, ℕ, ◌+◌, ◌-◌, ◌≤◌, Bool, true, false, List, length, take, drop, MatchOption, replicate, slice_set};
 ghost use Rattle.graphs.specs.Edges.{FollowsForward};
 ghost use Rattle.graphs.specs.Answer.{Finds, search_refusal, refusal_in, strip_after, Lists};
+ghost use Rattle.graphs.specs.RefusalLaws.{SearchRefusalIsTold};
 ghost use Rattle.orders.specs.Orders.{among};
 ghost use Rattle.graphs.specs.Rows.{waits, mark, Smallest, SmallestTo, Ready, Stuck, Picked, Marked, Placing, Walked};
 ghost use Rattle.graphs.specs.Kept.{Keeps};
@@ -12,7 +13,7 @@ use refusals::Refusal;
 
 mod waits;
 
-pub use waits::{Wait, WaitList, wait_order};
+pub use waits::{Wait, WaitList, wait_order, waits_are_told};
 
 // A graph over some of the numbers from 1 to 64.
 pub trait Graph {
@@ -214,4 +215,10 @@ pub fn search<G: Graph>(graph: &G, list: &mut [u32], strip: &mut [u8]) -> Result
 // That an order follows every edge exactly when each edge between its numbers runs forward.
 pub fn follows_stands()
     ensures { FollowsForward }
+{}
+
+// That a search is refused by 22 for a strip of fewer than 64 bytes, else by 21 for a list with fewer cells than the graph has
+// numbers, and else not.
+pub fn refusals_are_told()
+    ensures { SearchRefusalIsTold }
 {}

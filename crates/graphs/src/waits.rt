@@ -1,7 +1,8 @@
 // Wait lists of winches, searched as graphs.
-ghost use Rattle.std.specs.Prelude.{◌≡◌, length};
+ghost use Rattle.std.specs.Prelude.{◌≡◌, length, IfOk};
 ghost use Rattle.graphs.specs.Answer.{refusal_in, strip_after, Lists};
 ghost use Rattle.graphs.specs.Waits.{is_winch, waits_has, waits_edge, all_winches, wait_refusal};
+ghost use Rattle.graphs.specs.WaitLaws.{AnswersWaits, WaitsAreTold};
 
 use crate::{Found, Graph, search};
 use refusals::Refusal;
@@ -65,9 +66,19 @@ pub fn wait_order(rows: &[Wait], list: &mut [u32], strip: &mut [u8]) -> Result<F
     ensures refuses { refusal_in result ≡ wait_refusal rows.now (length list.old) (length strip.old) }
     ensures strip { strip.new ≡ strip_after result strip.old }
     ensures lists { Lists (waits_has rows.now) (waits_edge rows.now) list.old list.new result }
+    ensures right { IfOk result (λ found. AnswersWaits rows.now found list.new) }
 {
     if !all_winches(rows) {
         return Err(Refusal::NoSuchWinch);
     }
     search(&WaitList::new(rows), list, strip)
 }
+
+// That the winches and who waits for whom are those of the rows, that 31 is refused where a row has a number outside 1 to 64 and
+// only there, and elsewhere what a search refuses. That the orders that are searched are the orders of the winches, and that one
+// of them follows every edge exactly when each awaited winch comes before the one that waits for it. That the order that is found
+// is the first in which the winches can move, that none is found exactly where they never can, that a cycle of the graph is one of
+// winches that wait for each other, and that where one is, they never can. That what is right to answer is what a search finds.
+pub fn waits_are_told()
+    ensures { WaitsAreTold }
+{}
