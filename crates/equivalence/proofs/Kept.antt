@@ -27,7 +27,7 @@ committed_kept alike es o h x y i j l c =
 
 module _ {K : Type 0} (alike : K → K → Bool) (same : Sameness alike) where
   -- acts on the same item meet
-  writes_meet : (k : K) (a b : Act K) → writes (alike k) a ≡ true → writes (alike k) b ≡ true → meets alike a b ≡ true
+  pub writes_meet : (k : K) (a b : Act K) → writes (alike k) a ≡ true → writes (alike k) b ≡ true → meets alike a b ≡ true
   writes_meet k (Read x) b p q = absurd (false≢true p)
   writes_meet k Commit b p q = absurd (false≢true p)
   writes_meet k Abort b p q = absurd (false≢true p)
@@ -36,13 +36,13 @@ module _ {K : Type 0} (alike : K → K → Bool) (same : Sameness alike) where
   writes_meet k (Write x) Abort p q = absurd (false≢true q)
   writes_meet k (Write x) (Write y) p q = same.transitive x k y (same.symmetric k x p) q
 
-  write_meets : (k : K) (a b : Act K) → writes (alike k) a ≡ true → b ≡ Read k → meets alike a b ≡ true
+  pub write_meets : (k : K) (a b : Act K) → writes (alike k) a ≡ true → b ≡ Read k → meets alike a b ≡ true
   write_meets k (Read x) b p e = absurd (false≢true p)
   write_meets k Commit b p e = absurd (false≢true p)
   write_meets k Abort b p e = absurd (false≢true p)
   write_meets k (Write x) b p e = subst (λ z. meets alike (Write x) z ≡ true) (sym e) (same.symmetric k x p)
 
-  read_meets : (k : K) (a b : Act K) → a ≡ Read k → writes (alike k) b ≡ true → meets alike a b ≡ true
+  pub read_meets : (k : K) (a b : Act K) → a ≡ Read k → writes (alike k) b ≡ true → meets alike a b ≡ true
   read_meets k a b e p = subst (λ z. meets alike z b ≡ true) (sym e) p
 
   -- a list that rises by place, and an order that has each of its cues once and keeps its conflicting pairs

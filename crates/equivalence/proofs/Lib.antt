@@ -14,3 +14,7 @@ pub mod Allowed
 pub mod Extended
 pub mod FirstOrders
 pub mod Fitting
+pub mod Cycles
+pub mod OneAnswer
+pub mod Swapped
+pub mod Sources

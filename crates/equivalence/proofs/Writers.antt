@@ -82,7 +82,7 @@ module _ {K : Type 0} (alike : K → K → Bool) (es : List (Entry K)) (k : K) w
   abbrev pub Writes : ℕ × Entry K → Type 0
   Writes x = Stands x (committed_list es) × (writes (alike k) x.1.act ≡ true)
 
-  sets_writes : (x : ℕ × Entry K) → Stands x (placed 1 es) → sets alike (committed es) k x.1 ≡ true → Writes x
+  pub sets_writes : (x : ℕ × Entry K) → Stands x (placed 1 es) → sets alike (committed es) k x.1 ≡ true → Writes x
   sets_writes x m h =
       let b = and_parts (committed es x.1.cue) (writes (alike k) x.1.act) h in
       (kept_from (λ p. counts es p.1) (placed 1 es) x m (and_from (committed es x.1.cue) (touches (λ k. true) x.1.act) b.0 (writes_touch (alike k) x.1.act b.1)), b.1)

@@ -1,3 +1,4 @@
 pub mod Laws
 pub mod Constraints
 pub mod Extending
+pub mod Sources
