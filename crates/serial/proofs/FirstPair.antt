@@ -1,15 +1,23 @@
--- The pair that is found is the first.
-use Rattle.std.proofs.Common.{◌≡◌, ℕ, zero, suc, ◌+◌, ◌-◌, ◌<◌, ◌≤◌, Bool, true, false, cond, eqb, ◌⊎◌, List, [], ◌∷◌, length, get_or, Some, None, Ok, Err, Option, Result, sym, refl, ap, ◌∙◌, subst, inl, inr, arith}
-use Rattle.std.proofs.lemmas.Bool.{and_from, and_parts, both_ways, eq-eqb, eqb-true}
+-- The pair that is found is the first, and no other answer is right.
+use Rattle.std.proofs.Common.{◌≡◌, ℕ, zero, suc, ◌+◌, ◌-◌, ◌<◌, ◌≤◌, Bool, true, false, cond, not, ◌&&◌, eqb, ◌⊎◌, List, [], ◌∷◌, length, get_or, Some, None, Ok, Err, Option, Result, sym, refl, ap, ◌∙◌, subst, inl, inr, arith}
+use Rattle.std.proofs.lemmas.Bool.{and_from, and_parts, both_ways, eq-eqb, eqb-true, ne_eqb, not-true, not_from_false}
 use Rattle.lists.specs.Lists.{or_else}
 use Rattle.refusals.specs.declared.Refusal.{Refusal}
 use Rattle.refusals.specs.declared.Refusal.TheVariants.{CuePair}
 use Rattle.history.specs.declared.Entry.{Entry}
 use Rattle.history.specs.Conflicts.{conflict}
+use Rattle.history.specs.Entries.{is_cue}
+use Rattle.history.proofs.Places.{cue_is, is_of_cue}
 use Rattle.serial.specs.declared.Pair.{Pair}
-use Rattle.serial.specs.Why.{two_cues, answers, pair_with, pair_from, why_of, why_answer, Tells}
+use Rattle.serial.specs.Why.{two_cues, answers, pair_with, pair_from, why_of, why_answer, AreTwoCues, Tells, WhyIsTold}
 use Rattle.history.specs.Order.{PutsBefore}
 use Rattle.std.proofs.lemmas.Option.{slice_get_within, get_or_from_slice_get, slice_get-get_or}
+
+never_err : (o : Option Pair) (f : Refusal) → Ok o ≡ Err f → ⊥
+never_err o f e = let z : ◌≡◌ {A = ℕ} 0 1 = cc in omega arith
+
+never_ok : (o : Option Pair) (f : Refusal) → Err f ≡ Ok o → ⊥
+never_ok o f e = let z : ◌≡◌ {A = ℕ} 0 1 = cc in omega arith
 
 module _ {K : Type 0} (alike : K → K → Bool) (i j : ℕ) where
   -- the entry with index k answers x
@@ -200,31 +208,84 @@ module _ {K : Type 0} (alike : K → K → Bool) (i j : ℕ) where
         | inr k ↦ inr (omega (arith, h.first, k.0, puts.0), omega (arith, h.second, k.1, puts.1))
       ]
 
-  tells_of : (es : List (Entry K)) (o : Option Pair) → FirstOr 1 es o → Tells alike es i j (Ok o)
-  tells_of es None h =
+  two_of : two_cues i j ≡ true → AreTwoCues i j
+  two_of h =
+      let q = and_parts (is_cue i && is_cue j) (not (eqb i j)) h in
+      let p = and_parts (is_cue i) (is_cue j) q.0 in
+      record {
+        one = cue_is i p.0;
+        other = cue_is j p.1;
+        differ = λ e. both_ways (eqb i j) (not-true (eqb i j) q.1) (eq-eqb i j e);
+      }
+
+  of_two : AreTwoCues i j → two_cues i j ≡ true
+  of_two t =
+      and_from (is_cue i && is_cue j) (not (eqb i j))
+      (and_from (is_cue i) (is_cue j) (is_of_cue i t.one) (is_of_cue j t.other))
+      (not_from_false (eqb i j) (ne_eqb i j t.differ))
+
+  tells_of : AreTwoCues i j → (es : List (Entry K)) (o : Option Pair) → FirstOr 1 es o → Tells alike es i j (Ok o)
+  tells_of two es None h =
       record {
         found = λ w e. absurd (let z : ◌≡◌ {A = ℕ} 0 1 = cc in omega arith);
         least = λ w e. absurd (let z : ◌≡◌ {A = ℕ} 0 1 = cc in omega arith);
         none = λ e p q r. h (p - 1) (q - 1) (puts_before es p q r).2;
+        refused = (λ e. absurd (never_err None CuePair e), λ n. absurd (n two));
+        only = λ f e. absurd (never_err None f e);
       }
-  tells_of es (Some v) h =
+  tells_of two es (Some v) h =
       record {
         found = λ w e. let same : v ≡ w = cc in subst (λ (u : Pair). PutsBefore alike es i j u.first u.second) same (before_puts es v.first v.second h.a h.b h.first h.second h.puts);
         least = λ w e. let same : v ≡ w = cc in subst (λ (u : Pair). (p q : ℕ) → PutsBefore alike es i j p q → (u.first < p) ⊎ ((u.first ≡ p) × (u.second ≤ q))) same (later_place es v h);
         none = λ e. absurd (let z : ◌≡◌ {A = ℕ} 0 1 = cc in omega arith);
+        refused = (λ e. absurd (never_err (Some v) CuePair e), λ n. absurd (n two));
+        only = λ f e. absurd (never_err (Some v) f e);
       }
 
-  tells_refused : (es : List (Entry K)) (f : Refusal) → Tells alike es i j (Err f)
-  tells_refused es f =
+  tells_refused : (AreTwoCues i j → ⊥) → (es : List (Entry K)) → Tells alike es i j (Err CuePair)
+  tells_refused not_two es =
       record {
-        found = λ w e. absurd (let z : ◌≡◌ {A = ℕ} 0 1 = cc in omega arith);
-        least = λ w e. absurd (let z : ◌≡◌ {A = ℕ} 0 1 = cc in omega arith);
-        none = λ e. absurd (let z : ◌≡◌ {A = ℕ} 0 1 = cc in omega arith);
+        found = λ w e. absurd (never_ok (Some w) CuePair e);
+        least = λ w e. absurd (never_ok (Some w) CuePair e);
+        none = λ e. absurd (never_ok None CuePair e);
+        refused = (λ e. not_two, λ n. refl);
+        only = λ f e. cc;
       }
 
-  tells_either : (es : List (Entry K)) (b : Bool) → Tells alike es i j (cond b (Ok (why_of alike es i j)) (Err CuePair))
-  tells_either es true = tells_of es (why_of alike es i j) (first_is 1 es)
-  tells_either es false = tells_refused es CuePair
+  tells_either : (es : List (Entry K)) (b : Bool) → two_cues i j ≡ b → Tells alike es i j (cond b (Ok (why_of alike es i j)) (Err CuePair))
+  tells_either es true h = tells_of (two_of h) es (why_of alike es i j) (first_is 1 es)
+  tells_either es false h = tells_refused (λ t. both_ways (two_cues i j) h (of_two t)) es
 
   pub tells : (es : List (Entry K)) (r : Result (Option Pair) Refusal) → r ≡ why_answer alike es i j → Tells alike es i j r
-  tells es r e = subst (Tells alike es i j) (sym e) (tells_either es (two_cues i j))
+  tells es r e = subst (Tells alike es i j) (sym e) (tells_either es (two_cues i j) refl)
+
+  -- no two answers are right
+  module _ (es : List (Entry K)) where
+    one_pair : (v w : Pair) → (v.first < w.first) ⊎ ((v.first ≡ w.first) × (v.second ≤ w.second)) → (w.first < v.first) ⊎ ((w.first ≡ v.first) × (w.second ≤ v.second)) → v ≡ w
+    one_pair v w (inl h) (inl k) = absurd (omega (arith, h, k))
+    one_pair v w (inl h) (inr k) = absurd (omega (arith, h, k.0))
+    one_pair v w (inr h) (inl k) = absurd (omega (arith, h.0, k))
+    one_pair v w (inr h) (inr k) =
+        let second : v.second ≡ w.second = omega (arith, h.1, k.1) in
+        (λ n. record { first = h.0 n; second = second n })
+
+    refusal_only : (f : Refusal) (o : Option Pair) → Tells alike es i j (Err f) → Tells alike es i j (Ok o) → ⊥
+    refusal_only f o t u =
+        let not_two = t.refused.0 (ap Err (t.only f refl)) in
+        never_err o CuePair (u.refused.1 not_two)
+
+    one_told : (r s : Result (Option Pair) Refusal) → Tells alike es i j r → Tells alike es i j s → r ≡ s
+    one_told (Err f) (Err g) t u = ap Err (t.only f refl ∙ sym (u.only g refl))
+    one_told (Err f) (Ok o) t u = absurd (refusal_only f o t u)
+    one_told (Ok o) (Err g) t u = absurd (refusal_only g o u t)
+    one_told (Ok None) (Ok None) t u = refl
+    one_told (Ok None) (Ok (Some w)) t u = absurd (t.none refl w.first w.second (u.found w refl))
+    one_told (Ok (Some v)) (Ok None) t u = absurd (u.none refl v.first v.second (t.found v refl))
+    one_told (Ok (Some v)) (Ok (Some w)) t u =
+        ap (λ (x : Pair). Ok (Some x))
+        (one_pair v w (t.least v refl w.first w.second (u.found w refl)) (u.least w refl v.first v.second (t.found v refl)))
+
+pub why_is_told_lem : (K : Type 0) → WhyIsTold K
+why_is_told_lem K alike es i j r =
+    let a = why_answer alike es i j in
+    (λ t. one_told alike i j es r a t (tells alike i j es a refl), tells alike i j es r)

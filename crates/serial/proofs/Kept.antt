@@ -14,7 +14,7 @@ use Rattle.history.proofs.Committed.{same_tests, has_committed}
 use Rattle.history.proofs.Keeping.{arrow_must}
 use Rattle.lists.proofs.Pairs.{pair_both, pair_one, pair_from_lem}
 use Rattle.orders.proofs.Precedence.{rearranged_has, rearranged_distinct}
-use Rattle.serial.proofs.Following.{follows_ahead, ahead_follows}
+use Rattle.graphs.proofs.Following.{follows_ahead, ahead_follows}
 use Rattle.orders.proofs.Same.{same_first}
 
 module _ {K : Type 0} (alike : K → K → Bool) (es : List (Entry K)) where

@@ -1,5 +1,4 @@
 pub mod FirstPair
-pub mod Following
 pub mod Kept
 pub mod Lasting
 pub mod Drawing

@@ -1,3 +1,4 @@
 pub mod Why
 pub mod OrderAnswer
+pub mod RefusalLaws
 pub mod Drawn

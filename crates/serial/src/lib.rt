@@ -5,8 +5,9 @@ ghost use Rattle.std.specs.Prelude.{◌≡◌, IfOk};
 ghost use Rattle.graphs.specs.Answer.{strip_after};
 ghost use Rattle.history.specs.Order.{CycleLasts};
 ghost use Rattle.serial.specs.OrderAnswer.{cycle_in, order_answer, order_list, shown_in};
+ghost use Rattle.serial.specs.RefusalLaws.{OrderRefusalIsTold};
 ghost use Rattle.history.specs.Answers.{AnswersOrder, ShownKeepsView};
-ghost use Rattle.serial.specs.Why.{two_cues, why_of, why_answer, Tells};
+ghost use Rattle.serial.specs.Why.{two_cues, why_of, why_answer, Tells, WhyIsTold};
 
 use arrows::conflict_graph;
 use graphs::{Found, search};
@@ -92,4 +93,16 @@ pub fn order_of<K: Item>(
 // That a cycle lasts: once there is one, no order is found again.
 pub fn cycle_lasts<K>()
     ensures { CycleLasts K }
+{}
+
+// That what `tells` promises of an answer of `why` is true of no other answer, refusals included:
+// for any entries and numbers it holds of exactly what `answer` promises.
+pub fn why_is_told<K>()
+    ensures { WhyIsTold K }
+{}
+
+// That an order is refused by 22 for a strip of fewer than 64 bytes, else by 21 for a list with
+// fewer cells than committed cues, and else not.
+pub fn refusals_are_told<K>()
+    ensures { OrderRefusalIsTold K }
 {}

@@ -9,3 +9,4 @@ pub mod Leaving
 pub mod Trying
 pub mod Answering
 pub mod AnswerRight
+pub mod Refusals

@@ -1,4 +1,5 @@
 pub mod Answer
+pub mod RefusalLaws
 pub mod Tables
 pub mod Noted
 pub mod Shown

@@ -3,6 +3,7 @@
 
 ghost use Rattle.std.specs.Prelude.{◌≡◌};
 ghost use Rattle.views.specs.Answer.{views_answer, views_list, ViewsRight};
+ghost use Rattle.views.specs.RefusalLaws.{ViewsRefusalIsTold};
 
 use constraints::constraints_of;
 use extending::Placing;
@@ -42,3 +43,9 @@ pub fn views_of<K: Item>(entries: &[Entry<K>], list: &mut [u32]) -> Result<Optio
     let found = start.extend(&mut list[..count]);
     Ok(found.then_some(count))
 }
+
+// That views are refused by 23 with more than 8 committed cues, else by 21 for a list with fewer
+// cells than these, and else not.
+pub fn refusals_are_told<K>()
+    ensures { ViewsRefusalIsTold K }
+{}
