@@ -27,6 +27,10 @@ module _ {K : Type 0} (parsed : List ℕ → Option K) (places : ℕ) where
   next_of es line e (Ok d) is h = next_by es line e d (entered places es d.cue) is refl h
   next_of es line e (Err f) is h = absurd (let z : ◌≡◌ {A = ℕ} 0 1 = cc in omega arith)
 
+  -- an entry that a line adds gets the next place
+  pub line_accepted : (es : List (Entry K)) (line : List ℕ) (e : Entry K) → line_entered parsed places es line ≡ Ok e → entered places es e.cue ≡ Ok (length es + 1)
+  line_accepted es line e h = (next_of es line e (line_in parsed line) refl h).place
+
   refused_by : (es : List (Entry K)) (line : List ℕ) (f : Layer) (d : Entry K) (p : Result ℕ Refusal) → line_in parsed line ≡ Ok d → entered places es d.cue ≡ p → of_book d p ≡ Err f → Refuses parsed places es line f
   refused_by es line f d (Ok p) says is h = absurd (let z : ◌≡◌ {A = ℕ} 0 1 = cc in omega arith)
   refused_by es line f d (Err g) says is h =

@@ -3,13 +3,15 @@
 
 ghost use Rattle.std.specs.Prelude.{◌≡◌, ◌≤◌, [], length};
 
+mod laws;
 mod questions;
 mod sheets;
 mod tickets;
 
 use history::{Entry, has_ended, is_cue};
+pub use laws::{entering_is_told, tickets_are_told};
 use refusals::Refusal;
-pub use sheets::{ReadFault, reads_in_stands};
+pub use sheets::{ReadFault, reads_in_stands, sheets_are_told};
 pub use tickets::{Receipt, Step, Ticket};
 
 // How many places a book uses at most.

@@ -3,6 +3,7 @@ ghost use Rattle.std.specs.Prelude.{◌≡◌};
 ghost use Rattle.book.specs.Entering.{room, accepted, Lays};
 ghost use Rattle.book.specs.Reading.{next_entered, told, added, read_in};
 ghost use Rattle.book.specs.ReadsIn.{ReadsIn, ReadsInIsReadIn};
+ghost use Rattle.book.specs.Sheets.{SheetsAreLines, FaultsStand, CountsStand, EntriesStay};
 
 use crate::Book;
 use items::Item;
@@ -64,4 +65,15 @@ impl<'a, K: Item> Book<'a, K> {
 // That the relation of reading in holds of what the equation gives, and of nothing else.
 pub fn reads_in_stands<K: Item>()
     ensures { ReadsInIsReadIn K.Item.parsed }
+{}
+
+// That a sheet is its lines, each of 16 bytes and the last of 1 to 16; that where a line is refused
+// those before it are read as they would be without it and what follows, one entry for each; that a
+// count is answered only where all lines are read, one entry for each; and that the entries that
+// were there stay.
+pub fn sheets_are_told<K: Item>()
+    ensures lines { SheetsAreLines }
+    ensures faults { FaultsStand K.Item.parsed }
+    ensures counts { CountsStand K.Item.parsed }
+    ensures stay { EntriesStay K.Item.parsed }
 {}
