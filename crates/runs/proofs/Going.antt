@@ -43,7 +43,7 @@ module _ {K : Type 0} (alike : K → K → Bool) (parsed : List ℕ → Option K
   gives_few s _ = omega arith
 
   -- one call more
-  after_push : (s : State K) (cs : List (Call K)) (c : Call K) → after_all parsed places s (cs ++ c ∷ []) ≡ after parsed places (after_all parsed places s cs) c
+  pub after_push : (s : State K) (cs : List (Call K)) (c : Call K) → after_all parsed places s (cs ++ c ∷ []) ≡ after parsed places (after_all parsed places s cs) c
   after_push s [] c = refl
   after_push s (d ∷ cs) c = after_push (after parsed places s d) cs c
 

@@ -1,5 +1,11 @@
+pub mod Agreeing
+pub mod Books
 pub mod Doing
 pub mod Going
 pub mod Holding
 pub mod Law
+pub mod Left
+pub mod Numbered
+pub mod Questions
+pub mod Rights
 pub mod Shown

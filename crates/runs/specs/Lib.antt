@@ -1,4 +1,5 @@
 pub mod Answers
 pub mod Holding
+pub mod Laws
 pub mod Runs
 pub mod Wants

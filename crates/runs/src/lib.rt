@@ -6,6 +6,9 @@ ghost use Rattle.book.specs.Entering.{room, accepted, Lays};
 ghost use Rattle.runs.specs.declared.Failure.TheVariants.{Refused, Fault};
 ghost use Rattle.runs.specs.Answers.{IsOrderAnswer, IsViewsAnswer, LentPast64};
 ghost use Rattle.runs.specs.Holding.{so_far, Keeps};
+ghost use Rattle.runs.specs.Laws.{StateIsAsAnswered, TicketsAreNumbered, RightIsTold, WantIsTold};
+ghost use Rattle.runs.specs.Laws.{QuestionsAreTold, AllRightIsTold, RunsGoOn};
+ghost use Rattle.runs.specs.Laws.{RunsMakeBooks, OrdersAgree, ViewsAgree};
 ghost use Rattle.runs.specs.Runs.{Right, after, wanted, Ran};
 
 mod cues;
@@ -211,4 +214,23 @@ pub fn perform<K: Item>(
 // That a list of more than 64 cells, or a strip of more than 64 bytes, makes no difference.
 pub fn lent_past_64<K>()
     ensures { LentPast64 K }
+{}
+
+// That after a call the state is what its answer says: an entry stands at the place that is
+// answered, a ticket is held by its number and, once it ended its cue, by none, and a refusal or a
+// question changes nothing. That a call is answered as its cue and its ticket want it, a sheet as
+// its lines do, and a question as the entries and what is lent do, about the state that the calls
+// before it left. That in no run an entry is of a cue that had ended, or of none, or stands past
+// the places. That two right answers about orders agree but in the cycle.
+pub fn runs_are_told<K>()
+    ensures answered { StateIsAsAnswered K }
+    ensures tickets { TicketsAreNumbered }
+    ensures right { RightIsTold K }
+    ensures questions { QuestionsAreTold K }
+    ensures turns { AllRightIsTold K }
+    ensures wants { WantIsTold }
+    ensures goes { RunsGoOn K }
+    ensures books { RunsMakeBooks K }
+    ensures orders { OrdersAgree K }
+    ensures views { ViewsAgree K }
 {}
