@@ -67,5 +67,18 @@ module _ {K : Type 0} (parsed : List ℕ → Option K) (places : ℕ) where
       go more (Ok e) t = more e t
       go more (Err f) t = omega (arith, h)
 
+  -- no more entries than places
+  entries_within : (n : ℕ) (es : List (Entry K)) (ls : List (List ℕ)) → length es ≤ places → length (read_from parsed places n es ls).entries ≤ places
+  entries_within n es [] h = h
+  entries_within n es (l ∷ ls) h =
+      go (λ e t. entries_within (n + 1) (es ++ e ∷ []) ls (omega (arith, length_push es e, t))) (line_entered parsed places es l) (of_line_lem es (line_in parsed l))
+    where
+      go : ((e : Entry K) → length es < places → length (read_from parsed places (n + 1) (es ++ e ∷ []) ls).entries ≤ places) → (r : Result (Entry K) Layer) → Taking es r → length (step parsed n es (λ e. read_from parsed places (n + 1) (es ++ e ∷ []) ls) r).entries ≤ places
+      go more (Ok e) t = more e t
+      go more (Err f) t = h
+
+  pub entries_few : (ls : List (List ℕ)) → length (read_from parsed places 0 [] ls).entries ≤ places
+  entries_few ls = entries_within 0 [] ls (omega arith)
+
   pub line_few : (ls : List (List ℕ)) (f : ReadFault) → (read_from parsed places 0 [] ls).answer ≡ Err f → f.line ≤ places + 1
   line_few ls f e = subst LineWithin e (read_within 0 [] ls refl (omega arith))

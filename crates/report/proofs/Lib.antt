@@ -1,3 +1,5 @@
 pub mod Bounds
 pub mod Writing
 pub mod Lengths
+pub mod Showing
+pub mod Reading

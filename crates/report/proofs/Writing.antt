@@ -25,7 +25,7 @@ use Rattle.book.proofs.ReadsIn.{reads_in_lem}
 use Rattle.report.specs.Text.{order, cycle, line, order_line, report_text}
 use Rattle.report.specs.Report.{OrderWritten, AnswersWritten, read_sheet, ShowsRight, Told, Written}
 
-numbers_long : (ns : List ℕ) → length (flat_map (number_in 5) ns) ≡ 5 * length ns
+pub numbers_long : (ns : List ℕ) → length (flat_map (number_in 5) ns) ≡ 5 * length ns
 numbers_long [] = refl
 numbers_long (n ∷ ns) = omega (arith, length-append (number_in 5 n) (flat_map (number_in 5) ns), length_justified 5 (decimal n), numbers_long ns)
 

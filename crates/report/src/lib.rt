@@ -6,6 +6,8 @@ ghost use Rattle.recovery.specs.Classes.{class_of};
 ghost use Rattle.book.specs.Entering.{accepted};
 ghost use Rattle.report.specs.Report.{OrderWritten, AnswersWritten, Told, Written};
 ghost use Rattle.report.specs.Text.{class_line, views_text};
+ghost use Rattle.report.specs.Laws.{LinesAreRead, OrderLineShows, ViewsLineShows, SheetReportShows};
+ghost use Rattle.report.specs.Laws.{ClassLineShows, FaultLineShows, ReportShows};
 
 mod pages;
 
@@ -101,3 +103,18 @@ pub fn cue_report(sheet: &[u8], space: &mut [u8]) -> Result<usize, Refusal>
     space[..text.len()].copy_from_slice(text);
     Ok(text.len())
 }
+
+// That a line is its word, its numbers, which are read again from five columns each, and a line
+// feed; that the line of the class shows its number and then its place; that the lines of the order
+// and of the views show what these calls answer, vmany where views is refused with 23 and only
+// there; and that a report, that of a sheet too, is these three lines in this order, or the
+// one line of a fault.
+pub fn lines_show_answers<K>()
+    ensures read { LinesAreRead }
+    ensures class { ClassLineShows }
+    ensures order { OrderLineShows K }
+    ensures views { ViewsLineShows K }
+    ensures fault { FaultLineShows K }
+    ensures report { ReportShows K }
+    ensures sheet { SheetReportShows }
+{}

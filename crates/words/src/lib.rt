@@ -3,6 +3,7 @@
 
 ghost use Rattle.std.specs.Prelude.{◌≡◌, Some};
 ghost use Rattle.words.specs.Words.{item_in, spaced};
+ghost use Rattle.words.specs.WordsAreTold.{WordIsTold, SpacedIsTold};
 
 use items::Item;
 use std::fmt;
@@ -31,3 +32,11 @@ impl fmt::Display for Spaced<'_> {
         Ok(())
     }
 }
+
+// That the item of a word is the item of the columns in which the word stands, right-justified, and
+// that there is none exactly where the word is longer or they hold none; and that numbers in print
+// are cut at their blanks into the numbers.
+pub fn words_are_told<K: Item>()
+    ensures item { WordIsTold K.Item.parsed }
+    ensures numbers { SpacedIsTold }
+{}

@@ -1,5 +1,5 @@
-use Rattle.std.proofs.Common.{rules, append_assoc}
-use Rattle.recovery.proofs.ByPlaces.{class_is_by_places}
+use Rattle.std.proofs.Common.{refl, rules, append_assoc}
+use Rattle.recovery.proofs.ByPlaces.{class_right}
 use Rattle.equivalence.specs.Laws.{Sameness}
 use Rattle.equivalence.proofs.FirstOrders.{first_orders}
 use Rattle.book.specs.Entering.{accepted}
@@ -16,7 +16,7 @@ returns g c =
       is = search (rules, append_assoc);
       right =
           record {
-            class = class_is_by_places _ alike es;
+            class = class_right alike es _ refl;
             order = (first_orders _).order alike es order.shown order.cycle;
             view = (first_orders _).view alike same es order.shown;
             views = (first_orders _).views alike same es;
