@@ -1,4 +1,4 @@
--- That the definitions agree with each of the thirty books, by computing. Assumes nothing.
+-- That the definitions agree with each of the thirty-seven books, by computing. Assumes nothing.
 use Rattle.std.proofs.Common.{refl}
 use Rattle.orders.specs.Orders.{among}
 use Rattle.agreement.specs.Histories.{HistoriesAgree}
@@ -34,6 +34,13 @@ histories_agree_lem =
     (refl, refl, refl, refl) &
     (refl, refl, (refl, cycle refl), refl) &
     (refl, refl, (refl, cycle refl), refl) &
+    (refl, refl, refl, refl) &
+    (refl, refl, refl, refl) &
+    (refl, refl, refl, refl) &
+    (refl, refl, refl, refl) &
+    (refl, refl, refl, refl) &
+    (refl, refl, refl, refl) &
+    (refl, refl, refl, refl) &
     (refl, refl, refl, refl) &
     (refl, refl, refl, refl) &
     (refl, refl, refl, refl) &

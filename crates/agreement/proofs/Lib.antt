@@ -2,3 +2,4 @@ pub mod Cycles
 pub mod Rows
 pub mod Samples
 pub mod Histories
+pub mod WaitLists

@@ -1,4 +1,4 @@
--- That the definitions agree with each of the twelve sample books, by computing. Assumes nothing.
+-- That the definitions agree with each of the thirteen sample books, by computing. Assumes nothing.
 use Rattle.std.proofs.Common.{refl}
 use Rattle.orders.specs.Orders.{among}
 use Rattle.agreement.specs.Samples.{SamplesAgree}
@@ -17,6 +17,7 @@ samples_agree_lem =
     (refl, refl, (refl, cycle refl), refl) &
     (refl, refl, (refl, cycle refl), refl) &
     (refl, refl, (refl, cycle refl), refl) &
+    (refl, refl, refl, refl) &
     (refl, refl, refl, refl) &
     (refl, refl, refl, refl) &
     (refl, refl, refl, refl) &

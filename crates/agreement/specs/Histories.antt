@@ -1,4 +1,4 @@
--- Thirty longer or rarer books of axes. Assumes nothing.
+-- Thirty-seven longer or rarer books of axes. Assumes nothing.
 use Rattle.std.specs.Prelude.{List, [], ◌∷◌, Some, None}
 use Rattle.std.specs.List.{AllByRecursion}
 use Rattle.items.specs.declared.Axis.{Axis}
@@ -52,7 +52,7 @@ histories =
     -- a lost update
     row (r 1 1 ∷ r 2 1 ∷ w 1 1 ∷ r 1 2 ∷ w 2 1 ∷ c 2 ∷ w 1 2 ∷ c 1 ∷ [])
     (2, 5) (cyclic (1 ∷ 2 ∷ [])) None ∷
-    -- three cues, two of them in a ring
+    -- three cues, two of them in a cycle
     row
     (r 2 3 ∷ r 2 2 ∷ w 2 2 ∷ r 3 2 ∷ r 3 3 ∷ r 1 1 ∷ w 1 1 ∷ w 3 2 ∷ w 3 3 ∷ c 3 ∷ r 2 1 ∷
     r 1 2 ∷ w 1 2 ∷ c 1 ∷ w 2 1 ∷ c 2 ∷ [])
@@ -67,15 +67,15 @@ histories =
     (r 4 4 ∷ w 3 1 ∷ r 2 1 ∷ r 1 1 ∷ w 4 4 ∷ w 3 2 ∷ r 1 2 ∷ w 1 1 ∷ r 3 4 ∷ w 3 3 ∷ r 2 3 ∷
     w 1 2 ∷ r 2 4 ∷ w 2 3 ∷ c 1 ∷ c 2 ∷ c 3 ∷ c 4 ∷ [])
     (0, 15) (ordered (4 ∷ 3 ∷ 2 ∷ 1 ∷ [])) (Some (4 ∷ 3 ∷ 2 ∷ 1 ∷ [])) ∷
-    -- four cues, some in a ring
+    -- four cues, some in a cycle
     row
     (r 1 1 ∷ r 2 1 ∷ r 2 3 ∷ w 3 1 ∷ w 3 2 ∷ r 4 4 ∷ r 1 2 ∷ w 4 4 ∷ w 1 1 ∷ r 2 4 ∷ r 3 4 ∷
     w 3 3 ∷ w 2 3 ∷ w 1 2 ∷ c 1 ∷ c 2 ∷ c 3 ∷ c 4 ∷ [])
     (0, 15) (cyclic (3 ∷ 2 ∷ 1 ∷ [])) None ∷
-    -- three cues in a ring
+    -- three cues in a cycle
     row (r 1 1 ∷ w 2 1 ∷ r 2 2 ∷ w 3 2 ∷ r 3 3 ∷ w 1 3 ∷ c 1 ∷ c 2 ∷ c 3 ∷ [])
     (3, 0) (cyclic (1 ∷ 2 ∷ 3 ∷ [])) None ∷
-    -- a ring with an aborted cue
+    -- a cycle with an aborted cue
     row (r 1 1 ∷ w 2 1 ∷ r 2 2 ∷ w 3 2 ∷ r 3 3 ∷ w 1 3 ∷ c 1 ∷ a 2 ∷ c 3 ∷ [])
     (3, 0) (ordered (3 ∷ 1 ∷ [])) (Some (3 ∷ 1 ∷ [])) ∷
     -- the smallest that can go first goes first
@@ -103,6 +103,24 @@ histories =
     -- a crash before the first commits
     row (r 1 1 ∷ w 1 1 ∷ r 1 2 ∷ r 2 1 ∷ w 1 2 ∷ r 2 2 ∷ c 2 ∷ r 1 3 ∷ w 1 3 ∷ [])
     (0, 7) (ordered (2 ∷ [])) (Some (2 ∷ [])) ∷
+    -- a cue reads its own write over another's
+    row (w 1 5 ∷ w 2 5 ∷ r 2 5 ∷ c 1 ∷ c 2 ∷ [])
+    (2, 2) (ordered (1 ∷ 2 ∷ [])) (Some (1 ∷ 2 ∷ [])) ∷
+    -- the reader aborts
+    row (w 1 5 ∷ r 2 5 ∷ a 2 ∷ c 1 ∷ []) (1, 2) (ordered (1 ∷ [])) (Some (1 ∷ [])) ∷
+    -- a read of a committed write over an open one
+    row (w 1 5 ∷ w 2 5 ∷ c 2 ∷ r 3 5 ∷ c 1 ∷ c 3 ∷ [])
+    (2, 2) (ordered (1 ∷ 2 ∷ 3 ∷ [])) (Some (1 ∷ 2 ∷ 3 ∷ [])) ∷
+    -- cue 64 comes first
+    row (w 64 5 ∷ r 2 5 ∷ c 64 ∷ c 2 ∷ [])
+    (1, 2) (ordered (64 ∷ 2 ∷ [])) (Some (64 ∷ 2 ∷ [])) ∷
+    -- an open write is read by an open cue
+    row (w 1 5 ∷ w 2 5 ∷ c 1 ∷ r 3 5 ∷ []) (1, 4) (ordered (1 ∷ [])) (Some (1 ∷ [])) ∷
+    -- the reader aborts, and none commits
+    row (w 1 5 ∷ r 2 5 ∷ a 2 ∷ []) (1, 2) (ordered []) (Some []) ∷
+    -- the views come before the order
+    row (w 2 5 ∷ w 1 5 ∷ r 1 5 ∷ w 3 5 ∷ c 1 ∷ c 2 ∷ c 3 ∷ [])
+    (2, 2) (ordered (2 ∷ 1 ∷ 3 ∷ [])) (Some (1 ∷ 2 ∷ 3 ∷ [])) ∷
     []
 
 abbrev pub HistoriesAgree : Type 0

@@ -1,4 +1,4 @@
--- The twelve sample books, of axes and of marks, each with its number. Assumes nothing.
+-- The thirteen sample books, of axes and of marks, all but the last with a number. Assumes nothing.
 use Rattle.std.specs.Prelude.{ℕ, ◌-◌, List, [], ◌∷◌, Some, None}
 use Rattle.std.specs.List.{AllByRecursion}
 use Rattle.items.specs.declared.Axis.{Axis}
@@ -18,6 +18,10 @@ trap = spelt (116 ∷ 114 ∷ 97 ∷ 112 ∷ [])
 
 abbrev pub trap_in_capitals : Mark
 trap_in_capitals = spelt (84 ∷ 82 ∷ 65 ∷ 80 ∷ [])
+
+-- the bytes of `lift`
+abbrev pub lift : Mark
+lift = spelt (108 ∷ 105 ∷ 102 ∷ 116 ∷ [])
 
 -- a row of either kind
 pub data Sample : Type 0 where
@@ -62,6 +66,9 @@ samples =
     -- 14, marks of either case are the same
     of_marks (row (write 1 trap ∷ read 2 trap_in_capitals ∷ c 1 ∷ c 2 ∷ [])
     (1, 2) (ordered (1 ∷ 2 ∷ [])) (Some (1 ∷ 2 ∷ []))) ∷
+    -- marks of other letters are not
+    of_marks (row (write 1 trap ∷ read 2 lift ∷ c 1 ∷ c 2 ∷ [])
+    (3, 0) (ordered (1 ∷ 2 ∷ [])) (Some (1 ∷ 2 ∷ []))) ∷
     []
 
 abbrev pub SamplesAgree : Type 0

@@ -2,7 +2,7 @@
 use crate::Sample;
 
 // Books of axes.
-pub const AXES: [Sample<'static>; 42] = [
+pub const AXES: [Sample<'static>; 49] = [
     Sample {
         shows: "empty",
         book: "",
@@ -107,7 +107,7 @@ pub const AXES: [Sample<'static>; 42] = [
         book: "r1(1) r2(1) w1(1) r1(2) w2(1) c2 w1(2) c1",
     },
     Sample {
-        shows: "three cues, two of them in a ring",
+        shows: "three cues, two of them in a cycle",
         book: "r2(3) r2(2) w2(2) r3(2) r3(3) r1(1) w1(1) w3(2) w3(3) c3 r2(1) r1(2) w1(2) c1 w2(1) c2",
     },
     Sample {
@@ -119,15 +119,15 @@ pub const AXES: [Sample<'static>; 42] = [
         book: "r4(4) w3(1) r2(1) r1(1) w4(4) w3(2) r1(2) w1(1) r3(4) w3(3) r2(3) w1(2) r2(4) w2(3) c1 c2 c3 c4",
     },
     Sample {
-        shows: "four cues, some in a ring",
+        shows: "four cues, some in a cycle",
         book: "r1(1) r2(1) r2(3) w3(1) w3(2) r4(4) r1(2) w4(4) w1(1) r2(4) r3(4) w3(3) w2(3) w1(2) c1 c2 c3 c4",
     },
     Sample {
-        shows: "three cues in a ring",
+        shows: "three cues in a cycle",
         book: "r1(1) w2(1) r2(2) w3(2) r3(3) w1(3) c1 c2 c3",
     },
     Sample {
-        shows: "a ring with an aborted cue",
+        shows: "a cycle with an aborted cue",
         book: "r1(1) w2(1) r2(2) w3(2) r3(3) w1(3) c1 a2 c3",
     },
     Sample {
@@ -176,10 +176,39 @@ pub const AXES: [Sample<'static>; 42] = [
         shows: "a crash before the first commits",
         book: "r1(1) w1(1) r1(2) r2(1) w1(2) r2(2) c2 r1(3) w1(3)",
     },
+    // Own writes, aborted readers, open cues, and the last cue.
+    Sample {
+        shows: "a cue reads its own write over another's",
+        book: "w1(5) w2(5) r2(5) c1 c2",
+    },
+    Sample {
+        shows: "the reader aborts",
+        book: "w1(5) r2(5) a2 c1",
+    },
+    Sample {
+        shows: "a read of a committed write over an open one",
+        book: "w1(5) w2(5) c2 r3(5) c1 c3",
+    },
+    Sample {
+        shows: "cue 64 comes first",
+        book: "w64(5) r2(5) c64 c2",
+    },
+    Sample {
+        shows: "an open write is read by an open cue",
+        book: "w1(5) w2(5) c1 r3(5)",
+    },
+    Sample {
+        shows: "the reader aborts, and none commits",
+        book: "w1(5) r2(5) a2",
+    },
+    Sample {
+        shows: "the views come before the order",
+        book: "w2(5) w1(5) r1(5) w3(5) c1 c2 c3",
+    },
 ];
 
 // Books of marks.
-pub const MARKS: [Sample<'static>; 2] = [
+pub const MARKS: [Sample<'static>; 3] = [
     Sample {
         shows: "marks of either case are the same",
         book: "w1(trap) r2(TRAP) c1 c2",
@@ -187,5 +216,9 @@ pub const MARKS: [Sample<'static>; 2] = [
     Sample {
         shows: "other marks are not",
         book: "w1(trap) r2(traps) c1 c2",
+    },
+    Sample {
+        shows: "marks of other letters are not",
+        book: "w1(trap) r2(lift) c1 c2",
     },
 ];

@@ -1,10 +1,20 @@
 // Runs the search on wait lists at its edges, and prints what came of each.
 #![tactic(auto)]
 
+mod wait_lists;
+
 use graphs::{Found, Wait, wait_order};
 use refusals::Refusal;
 use std::io;
+use wait_lists::LISTS;
 use words::Spaced;
+
+// A wait list, with what it shows.
+#[derive(Clone, Copy)]
+pub struct Sample<'a> {
+    pub shows: &'a str,
+    pub rows: &'a [Wait],
+}
 
 // The byte that a strip is lent with.
 const LENT: u8 = 9;
@@ -61,8 +71,8 @@ fn show_chains(rt: &HostRuntime) -> anyhow::Result<()> {
         winch: 64,
         awaited: 1,
     })?;
-    show(rt, "one ring", rows.as_slice(), 64, 64)?;
-    show(rt, "one ring", rows.as_slice(), 70, 65)
+    show(rt, "one cycle", rows.as_slice(), 64, 64)?;
+    show(rt, "one cycle", rows.as_slice(), 70, 65)
 }
 
 // One row, once or twice.
@@ -82,6 +92,9 @@ fn main(rt: HostRuntime) -> anyhow::Result<()> {
         ("winch 65", 1, 65, 64),
     ] {
         show_row(&rt, name, Wait { winch, awaited }, cells)?;
+    }
+    for list in LISTS {
+        show(&rt, list.shows, list.rows, 4, 64)?;
     }
     Ok(())
 }
