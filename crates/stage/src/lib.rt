@@ -61,10 +61,8 @@ fn rehearse<K: Kind>(rt: &HostRuntime, said: &[Said<'_>]) -> anyhow::Result<()> 
 
 // Reads a script, and prints each of its calls with its answer, or the first line that cannot be read. Its first line may choose
 // the kind of its items, which are axes otherwise.
-pub fn run(rt: &HostRuntime) -> anyhow::Result<()> {
-    let mut bytes = Vec::new(rt.alloc());
-    rt.stdin().read_to_end(&mut bytes)?;
-    let Ok(script) = from_utf8(bytes.as_slice()) else {
+pub fn run_script(rt: &HostRuntime, script: &[u8]) -> anyhow::Result<()> {
+    let Ok(script) = from_utf8(script) else {
         println!(rt; "the script is not text in UTF-8")?;
         return Ok(());
     };
@@ -74,4 +72,11 @@ pub fn run(rt: &HostRuntime) -> anyhow::Result<()> {
         Some((first, rest)) if first.words == "marks" => rehearse::<Mark>(rt, rest),
         _ => rehearse::<Axis>(rt, said.as_slice()),
     }
+}
+
+// The same of the script on standard input.
+pub fn run(rt: &HostRuntime) -> anyhow::Result<()> {
+    let mut bytes = Vec::new(rt.alloc());
+    rt.stdin().read_to_end(&mut bytes)?;
+    run_script(rt, bytes.as_slice())
 }
