@@ -1,5 +1,6 @@
 -- The last of a list that passes. Assumes nothing.
-use Rattle.std.proofs.Common.{◌≡◌, ℕ, suc, ◌+◌, Bool, true, false, cond, ◌⊎◌, List, [], ◌∷◌, ◌++◌, length, Some, None, Option, sym, refl, ap, ◌∙◌, subst, inl, inr, arith}
+use Rattle.std.proofs.Common.{◌≡◌, ℕ, suc, ◌+◌, ◌-◌, ◌<◌, ◌≤◌, Bool, true, false, cond, ◌⊎◌, List, [], ◌∷◌, ◌++◌, length, get_or, take, Some, None, Option, sym, refl, ap, ◌∙◌, subst, inl, inr, arith}
+use Rattle.std.proofs.lemmas.List.{length-take-le, take_more, take_all}
 use Rattle.std.proofs.lemmas.Bool.{or_left, or_right}
 use Rattle.lists.specs.Lists.{some, or_else, last_where, placed}
 
@@ -39,6 +40,10 @@ module _ {X : Type 0} where
   or_else_assoc None b c = refl
   or_else_assoc (Some x) b c = refl
 
+  or_else_cond : (t : Bool) (x : X) (o : Option X) → or_else (cond t (Some x) None) o ≡ cond t (Some x) o
+  or_else_cond true x o = refl
+  or_else_cond false x o = refl
+
   or_else_none : (o : Option X) → or_else o None ≡ o
   or_else_none None = refl
   or_else_none (Some x) = refl
@@ -53,3 +58,18 @@ module _ {X : Type 0} where
   placed_push p [] x = ap (λ (n : ℕ). (n, x) ∷ []) (omega arith)
   placed_push p (y ∷ xs) x =
       ap (λ (zs : List (ℕ × X)). (p, y) ∷ zs) (placed_push (suc p) xs x ∙ ap (λ (n : ℕ). placed (suc p) xs ++ (n, x) ∷ []) (omega arith))
+
+-- the last of the first i by their places, one element back
+pub last_before : {X : Type 0} (test : ℕ × X → Bool) (xs : List X) (i : ℕ) (x : X) → 0 < i → i ≤ length xs → x ≡ get_or xs (i - 1) x → last_where test (placed 1 (take i xs)) ≡ cond (test (i, x)) (Some (i, x)) (last_where test (placed 1 (take (i - 1) xs)))
+last_before {X} test xs i x some within e =
+    let front = take (i - 1) xs in
+    let back : i - 1 + 1 ≡ i = omega arith in
+    let long : 1 + length front ≡ i = ap (λ (n : ℕ). 1 + n) (length-take-le (i - 1) xs (omega arith)) ∙ omega arith in
+    let cut : take i xs ≡ front ++ x ∷ [] = sym (ap (λ (n : ℕ). take n xs) back) ∙ take_more xs (i - 1) x (omega arith) ∙ ap (λ (y : X). front ++ y ∷ []) (sym e) in
+    ap (λ (ys : List X). last_where test (placed 1 ys)) cut
+    ∙ ap (last_where test) (placed_push 1 front x ∙ ap (λ (n : ℕ). placed 1 front ++ (n, x) ∷ []) long)
+    ∙ last_push test (placed 1 front) (i, x)
+    ∙ or_else_cond (test (i, x)) (i, x) (last_where test (placed 1 front))
+
+pub last_all : {X : Type 0} (test : ℕ × X → Bool) (xs : List X) → last_where test (placed 1 (take (length xs) xs)) ≡ last_where test (placed 1 xs)
+last_all {X} test xs = ap (λ (ys : List X). last_where test (placed 1 ys)) (take_all (length xs) xs (omega arith))

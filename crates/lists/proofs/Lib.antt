@@ -1,7 +1,10 @@
 pub mod Drops
 pub mod Every
 pub mod FirstFrom
+pub mod Firsts
+pub mod FrontSteps
 pub mod Has
+pub mod Laid
 pub mod Last
 pub mod Pairs
 pub mod Passes
