@@ -93,6 +93,9 @@ length_without x (u ∷ us) d (inr s) =
     rw f (ap suc (length_without x us d.1 s))
 
 -- the orders, by their first number
+pub orders_none : orders [] ≡ [] ∷ []
+orders_none = refl
+
 pub orders_some : (n : ℕ) (us : List ℕ) → length us ≡ suc n → orders us ≡ flat_map (λ x. map (λ o. x ∷ o) (orders_of n (without x us))) us
 orders_some n us l = ap (λ (k : ℕ). orders_of k us) l
 
