@@ -1,11 +1,26 @@
 -- Leading blanks, and texts in columns. Assumes nothing.
-use Rattle.std.proofs.Common.{◌≡◌, ℕ, zero, suc, ◌+◌, ◌-◌, ◌≤◌, Bool, true, false, cond, eqb, List, [], ◌∷◌, ◌++◌, length, drop, replicate, sym, refl, ap, ◌∙◌, subst, inl, inr, append_assoc, append-nil, one-add, arith}
+use Rattle.std.proofs.Common.{◌≡◌, ℕ, zero, suc, ◌+◌, ◌-◌, ◌<◌, ◌≤◌, Bool, true, false, cond, eqb, List, [], ◌∷◌, ◌++◌, length, get_or, drop, replicate, sym, refl, ap, ◌∙◌, subst, inl, inr, append_assoc, append-nil, one-add, arith}
 use Rattle.std.specs.List.{prefix_len}
-use Rattle.std.proofs.lemmas.List.{drop-append-le, drop_at, drop-replicate, length-append, length-drop, length-replicate}
-use Rattle.std.proofs.lemmas.Bool.{both_ways, eqb-true, ne_eqb, cases_Bool, cond-true, cond-false}
+use Rattle.std.proofs.lemmas.List.{at_drop_more, at_drop_all, drop-append-le, drop_all, drop_at, drop-replicate, length-append, length-drop, length-replicate}
+use Rattle.std.proofs.lemmas.Bool.{both_ways, eqb-true, eq-eqb, ne_eqb, cases_Bool, cond-true, cond-false}
 use Rattle.lists.specs.Lists.{every}
 use Rattle.lists.proofs.Every.{every_rest}
 use Rattle.columns.specs.Columns.{after_blanks, justified}
+
+-- one more leading blank
+pub blank_more : (bs : List ℕ) (i : ℕ) → i < length bs → get_or bs i 0 ≡ 32 → after_blanks (drop (i + 1) bs) ≡ after_blanks (drop i bs)
+blank_more bs i h e =
+    sym (at_drop_more after_blanks bs i 0 h ∙ cond-true (eqb (get_or bs i 0) 32) _ _ (eq-eqb (get_or bs i 0) 32 e))
+
+-- the first byte that is no blank
+pub blank_stop : (bs : List ℕ) (i : ℕ) → i < length bs → (get_or bs i 0 ≡ 32 → ⊥) → after_blanks (drop i bs) ≡ drop i bs
+blank_stop bs i h ne =
+    at_drop_more after_blanks bs i 0 h
+    ∙ cond-false (eqb (get_or bs i 0) 32) _ _ (ne_eqb (get_or bs i 0) 32 ne)
+    ∙ sym (at_drop_more (λ (xs : List ℕ). xs) bs i 0 h)
+
+pub blank_end : (bs : List ℕ) (i : ℕ) → length bs ≤ i → after_blanks (drop i bs) ≡ []
+blank_end bs i h = at_drop_all after_blanks bs i h
 
 -- what stands after the blanks that lead
 pub drop_blanks : (bs : List ℕ) → drop (prefix_len (λ b. eqb b 32) bs) bs ≡ after_blanks bs
@@ -42,7 +57,10 @@ pub after_blanks_replicate : (n : ℕ) (bs : List ℕ) → after_blanks (replica
 after_blanks_replicate zero bs = refl
 after_blanks_replicate (suc n) bs = after_blanks_replicate n bs
 
--- no text
+-- a text in no columns, and no text
+pub justified_zero : (bs : List ℕ) → justified 0 bs ≡ []
+justified_zero bs = drop_all (length bs) bs (omega arith)
+
 pub justified_none : (w : ℕ) → justified w [] ≡ replicate w 32
 justified_none w = append-nil (replicate w 32)
 

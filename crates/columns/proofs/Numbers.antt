@@ -1,13 +1,13 @@
 -- Decimal numbers in columns. Assumes nothing.
-use Rattle.std.proofs.Common.{◌≡◌, ℕ, suc, ◌+◌, ◌-◌, ◌*◌, ◌/◌, ◌%◌, ◌^◌, ◌<◌, ◌≤◌, Bool, true, false, cond, not, ◌&&◌, eqb, leb, List, [], ◌∷◌, ◌++◌, length, get_or, drop, replicate, Some, None, decimal, Option, sym, refl, ap, ◌∙◌, inl, inr, arith, rules}
+use Rattle.std.proofs.Common.{◌≡◌, ℕ, suc, ◌+◌, ◌-◌, ◌*◌, ◌/◌, ◌%◌, ◌^◌, ◌<◌, ◌≤◌, Bool, true, false, cond, not, ◌&&◌, eqb, ltb, leb, List, [], ◌∷◌, ◌++◌, length, get_or, drop, set, replicate, Some, None, decimal, Option, sym, refl, ap, ◌∙◌, inl, inr, append_assoc, add-one, arith, rules}
 use Rattle.std.proofs.lemmas.Str.Parse.{IsNumeralModel, numerals_by_fold, digits_value_short}
 use Rattle.std.proofs.lemmas.Fmt.{decimal_nonempty, first_decimal, decimal_digit, decimal_step, length-decimal-le, digits_decimal, digits_value-decimal, decimal-digits_value}
-use Rattle.std.proofs.lemmas.List.{at_drop_more, at_drop_all}
-use Rattle.std.proofs.lemmas.Bool.{false≢true, and_parts, and_from, eqb-false, ne_eqb, not-true, not_from_false, leb-true, lt-leb, le-leb, cases_Bool, cases_lt, cond-true, cond-false}
+use Rattle.std.proofs.lemmas.List.{at_drop_more, at_drop_all, drop-set, replicate_more}
+use Rattle.std.proofs.lemmas.Bool.{false≢true, and_parts, and_from, and_left, and_right, eqb-false, eq-eqb, ne_eqb, not-true, not_from_false, leb-true, lt-leb, le-leb, lt-ltb, le-ltb, cases_Bool, cases_lt, cases_eq, cond-true, cond-false}
 use Rattle.lists.specs.Lists.{every}
 use Rattle.columns.specs.Symbols.{is_digit}
 use Rattle.columns.specs.Columns.{after_blanks, justified, well_written, value_from, digits_from, number, up_to, number_in}
-use Rattle.columns.proofs.Blanks.{no_blanks, after_blanks_le, after_blanks_justified, justified_after_blanks, justified_push, justified_none}
+use Rattle.columns.proofs.Blanks.{no_blanks, after_blanks_le, after_blanks_justified, justified_after_blanks, justified_push, justified_none, justified_zero}
 
 -- all digits, and their value, are the library's words too
 pub own : IsNumeralModel (λ ds. every is_digit ds ≡ true) (value_from 0)
@@ -129,6 +129,77 @@ pub number_in_more : (w k n : ℕ) → k + 1 ≡ w → 10 ≤ n → n < 2 ^ 64 �
 number_in_more w k n more big h =
     let next : w ≡ suc k = omega arith in
     ap (λ (a : ℕ). number_in a n) next ∙ ap (justified (suc k)) (decimal_step n big h) ∙ justified_push k (decimal (n / 10)) (48 + n % 10)
+
+-- Writing digits from the last column on
+
+-- what is to come in the first a of w columns, with n left of the number
+abbrev pub front : ℕ → ℕ → ℕ → List ℕ
+front a w n = cond (eqb n 0 && ltb a w) (replicate a 32) (number_in a n)
+
+digit_in : (a n : ℕ) → n < 10 → number_in (suc a) n ≡ replicate a 32 ++ (48 + n) ∷ []
+digit_in a n h =
+    ap (justified (suc a)) (decimal_digit n h) ∙ justified_push a [] (48 + n) ∙ ap (λ (xs : List ℕ). xs ++ (48 + n) ∷ []) (justified_none a)
+
+blank_in : (a w : ℕ) → suc a < w → front (suc a) w 0 ≡ front a w 0 ++ 32 ∷ []
+blank_in a w h =
+    cond-true (eqb 0 0 && ltb (suc a) w) _ _ (and_from (eqb 0 0) _ refl (lt-ltb (suc a) w h))
+    ∙ sym (replicate_more a 32 ∙ ap (λ (n : ℕ). replicate n 32) (add-one a))
+    ∙ ap (λ (xs : List ℕ). xs ++ 32 ∷ []) (sym (cond-true (eqb 0 0 && ltb a w) (replicate a 32) (number_in a 0) (and_from (eqb 0 0) _ refl (lt-ltb a w (omega arith)))))
+
+digit_at : (a w n : ℕ) → suc a ≤ w → (n ≡ 0 → suc a ≡ w) → n < 2 ^ 64 → front (suc a) w n ≡ front a w (n / 10) ++ (48 + n % 10) ∷ []
+digit_at a w n within last h =
+    let shut : (eqb n 0 && ltb (suc a) w) ≡ false =
+    elim (cases_eq n 0) [
+      | inl z ↦ and_right (eqb n 0) _ (le-ltb (suc a) w (omega (arith, last z)))
+      | inr ne ↦ and_left (eqb n 0) _ (ne_eqb n 0 ne)
+    ] in
+    cond-false (eqb n 0 && ltb (suc a) w) (replicate (suc a) 32) (number_in (suc a) n) shut
+    ∙ elim (cases_lt n 10) [
+      | inl small ↦
+          let none : n / 10 ≡ 0 = omega arith in
+          let same : n % 10 ≡ n = omega arith in
+          digit_in a n small
+          ∙ ap (λ (m : ℕ). replicate a 32 ++ (48 + m) ∷ []) (sym same)
+          ∙ ap (λ (xs : List ℕ). xs ++ (48 + n % 10) ∷ [])
+          (sym (cond-true (eqb (n / 10) 0 && ltb a w) (replicate a 32) (number_in a (n / 10)) (and_from _ _ (eq-eqb (n / 10) 0 none) (lt-ltb a w (omega arith)))))
+      | inr big ↦
+          let some : n / 10 ≡ 0 → ⊥ = λ z. omega arith in
+          ap (justified (suc a)) (decimal_step n big h)
+          ∙ justified_push a (decimal (n / 10)) (48 + n % 10)
+          ∙ ap (λ (xs : List ℕ). xs ++ (48 + n % 10) ∷ [])
+          (sym (cond-false (eqb (n / 10) 0 && ltb a w) (replicate a 32) (number_in a (n / 10)) (and_left _ _ (ne_eqb (n / 10) 0 some))))
+    ]
+
+pub front_blank : (at w n : ℕ) → 0 < at → at < w → n ≡ 0 → front at w n ≡ front (at - 1) w (n / 10) ++ 32 ∷ []
+front_blank at w n some within none =
+    let next : at ≡ suc (at - 1) = omega arith in
+    let rest : 0 ≡ n / 10 = omega arith in
+    (λ i. front (next i) w (none i)) ∙ blank_in (at - 1) w (omega arith) ∙ ap (λ (m : ℕ). front (at - 1) w m ++ 32 ∷ []) rest
+
+pub front_digit : (at w n : ℕ) → 0 < at → at ≤ w → (n ≡ 0 → at ≡ w) → n < 2 ^ 64 → front at w n ≡ front (at - 1) w (n / 10) ++ (48 + n % 10) ∷ []
+front_digit at w n some within last h =
+    let next : at ≡ suc (at - 1) = omega arith in
+    ap (λ (k : ℕ). front k w n) next ∙ digit_at (at - 1) w n (omega arith) (λ none. omega (arith, last none)) h
+
+-- one column more is written
+pub column_more : (rest more : List ℕ) (b at : ℕ) (field whole : List ℕ) → 0 < at → at ≤ length field → rest ≡ more ++ b ∷ [] → rest ++ drop at field ≡ whole → more ++ drop (at - 1) (set field (at - 1) b) ≡ whole
+column_more rest more b at field whole some within e h =
+    let same : at - 1 + 1 ≡ at = omega arith in
+    ap (λ (xs : List ℕ). more ++ xs) (drop-set field (at - 1) b (omega arith) ∙ ap (λ (n : ℕ). b ∷ drop n field) same)
+    ∙ sym (append_assoc more (b ∷ []) (drop at field))
+    ∙ ap (λ (xs : List ℕ). xs ++ drop at field) (sym e)
+    ∙ h
+
+-- at the start all is to come, and at the end nothing
+pub front_whole : (w n : ℕ) → front w w n ≡ number_in w n
+front_whole w n = cond-false (eqb n 0 && ltb w w) (replicate w 32) (number_in w n) (and_right (eqb n 0) _ (le-ltb w w (omega arith)))
+
+pub front_zero : (w n : ℕ) → front 0 w n ≡ []
+front_zero w n =
+    elim (cases_Bool (eqb n 0 && ltb 0 w)) [
+      | inl e ↦ cond-true (eqb n 0 && ltb 0 w) [] (number_in 0 n) e
+      | inr e ↦ cond-false (eqb n 0 && ltb 0 w) [] (number_in 0 n) e ∙ justified_zero (decimal n)
+    ]
 
 -- the number in a field of k columns has at most k digits
 pub number_fits : (k : ℕ) (bs : List ℕ) → length bs ≤ k → up_to (10 ^ k - 1) (number bs) ≡ number bs
