@@ -10,6 +10,10 @@ pub imp_of : (a b : Bool) → (not a || b) ≡ true → a ≡ true → b ≡ tru
 imp_of true b h e = h
 imp_of false b h e = absurd (both_ways false refl e)
 
+pub imp_from : (a b : Bool) → (a ≡ true → b ≡ true) → (not a || b) ≡ true
+imp_from true b h = h refl
+imp_from false b h = refl
+
 pub same_bool : (a b : Bool) → (a ≡ true → b ≡ true) → (b ≡ true → a ≡ true) → a ≡ b
 same_bool true b f g = sym (f refl)
 same_bool false true f g = g refl

@@ -114,6 +114,13 @@ module _ {K : Type 0} where
   under_either (p ∷ ps) u x y (inr i) (inl b) = inr (inr (subst (λ z. Under z x) b (u.0 x i)))
   under_either (p ∷ ps) u x y (inr i) (inr j) = under_either ps u.1 x y i j
 
+  pub comes_either : (ps : List (ℕ × Entry K)) (o : List ℕ) → Ordered Under ps → ((x : ℕ × Entry K) → Stands x ps → Stands x.1.cue o) → (x y : ℕ × Entry K) → Stands x ps → Stands y ps → (x ≡ y) ⊎ (Comes o x y ⊎ Comes o y x)
+  comes_either ps o u cover x y i j =
+      ⊎_elim
+      (λ e. let c = eqb-true x.1.cue y.1.cue e in ⊎_elim inl (λ s. inr (⊎_elim (λ l. inl (inr (c, l))) (λ l. inr (inr (sym c, l))) s)) (under_either ps u x y i j))
+      (λ e. inr (⊎_elim (λ p. inl (inl p)) (λ p. inr (inl p)) (prec_either x.1.cue y.1.cue o (cover x i) (cover y j) (λ c. both_ways (eqb x.1.cue y.1.cue) e (eq-eqb x.1.cue y.1.cue c)))))
+      (cases_Bool (eqb x.1.cue y.1.cue))
+
   -- the serial list has the entries of the order's cues, by cue and then by place
   pub serial_of : (ps : List (ℕ × Entry K)) (o : List ℕ) (x : ℕ × Entry K) → Stands x (serial_list ps o) → Stands x ps × Stands x.1.cue o
   serial_of ps o x h =
