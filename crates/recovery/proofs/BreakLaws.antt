@@ -1,5 +1,5 @@
 -- Laws of breaks. Assumes nothing.
-use Rattle.std.proofs.Common.{◌≡◌, ℕ, zero, suc, ◌+◌, ◌-◌, ◌<◌, Bool, true, false, not, ◌&&◌, eqb, List, [], ◌∷◌, ◌++◌, length, get_or, take, drop, Some, None, Option, sym, refl, ap, ◌∙◌, subst, inl, inr, arith}
+use Rattle.std.proofs.Common.{◌≡◌, ℕ, zero, suc, ◌+◌, ◌-◌, ◌<◌, ◌≤◌, Bool, true, false, not, ◌&&◌, eqb, List, [], ◌∷◌, ◌++◌, length, get_or, take, drop, Some, None, Option, sym, refl, ap, ◌∙◌, subst, inl, inr, arith}
 use Rattle.std.proofs.lemmas.List.{length-take, take-append-drop}
 use Rattle.std.proofs.lemmas.Bool.{false≢true, both_ways, and_parts, and_from, or_from, cases_Bool, not-true, not_from_false, false_from_ne_true}
 use Rattle.lists.specs.Lists.{some, somewhere, first_from, passes, placed}
@@ -37,6 +37,12 @@ module _ {K : Type 0} where
   pub no_break : (rule : List (Entry K) → Entry K → Bool) (es : List (Entry K)) (q : ℕ) → first_break rule es ≡ None → breaks rule es q ≡ false
   no_break rule es zero h = refl
   no_break rule es (suc j) h = first_none rule 1 [] es h j
+
+  pub first_place : (rule : List (Entry K) → Entry K → Bool) (es : List (Entry K)) (p : ℕ) → first_break rule es ≡ Some p → (0 < p) × (p ≤ length es)
+  first_place rule es p h =
+      let r = first_found rule 1 [] es p h in
+      let within = passes_within rule [] es r.0 r.2.0 in
+      (omega (arith, r.1), omega (arith, r.1))
 
 pub first_break_lem : (K : Type 0) → FirstBreak K
 first_break_lem K = record { found = found_is_break; least = none_before; without = no_break }
@@ -104,13 +110,13 @@ module _ {K : Type 0} (alike : K → K → Bool) where
       sym (some_placed written 1 seen)
       ∙ last_within counted (λ p. written p.1) (placed 1 seen) r.0 r.1 (and_from (writes (alike k) w.act) (by_other (λ j. not (ended seen j)) e w) parts.0 other)
 
-  cascadeless_strict : (seen : List (Entry K)) (e : Entry K) → breaks_cascadeless alike seen e ≡ true → breaks_strict alike seen e ≡ true
+  pub cascadeless_strict : (seen : List (Entry K)) (e : Entry K) → breaks_cascadeless alike seen e ≡ true → breaks_strict alike seen e ≡ true
   cascadeless_strict seen e h =
       let written = λ (k : K). some (λ (w : Entry K). writes (alike k) w.act && by_other (λ j. not (ended seen j)) e w) seen in
       reads_touches written e.act
       (reads_weaker (λ k. found_by (by_other (λ j. not (committed seen j)) e) (source alike seen k)) written (from_open seen e) e.act h)
 
-  recoverable_cascadeless : (seen : List (Entry K)) (e : Entry K) → breaks_recoverable alike seen e ≡ true → somewhere (breaks_cascadeless alike) [] seen ≡ true
+  pub recoverable_cascadeless : (seen : List (Entry K)) (e : Entry K) → breaks_recoverable alike seen e ≡ true → somewhere (breaks_cascadeless alike) [] seen ≡ true
   recoverable_cascadeless seen e h =
       let uncommitted = λ (j : ℕ). not (committed seen j) in
       let test = λ (before : List (Entry K)) (r : Entry K). eqb r.cue e.cue && reads_from alike uncommitted before r in
@@ -124,10 +130,13 @@ module _ {K : Type 0} (alike : K → K → Bool) where
       passes_somewhere (breaks_cascadeless alike) [] seen i
       (passes_at (breaks_cascadeless alike) [] seen i e within ∙ reads_from_weaker uncommitted (λ j. not (committed before j)) earlier before r read)
 
-  -- without a break of cascadelessness there is none of recoverability
+  -- without a break of cascadelessness there is none of recoverability, here from the entries seen on
+  pub cascadeless_recoverable_from : (p : ℕ) (seen rest : List (Entry K)) → somewhere (breaks_cascadeless alike) [] seen ≡ false → first_from (breaks_cascadeless alike) p seen rest ≡ None → first_from (breaks_recoverable alike) p seen rest ≡ None
+  cascadeless_recoverable_from p seen rest h k =
+      first_none_after (breaks_cascadeless alike) (breaks_recoverable alike) recoverable_cascadeless p seen rest h k
+
   pub cascadeless_recoverable : (es : List (Entry K)) → first_break (breaks_cascadeless alike) es ≡ None → first_break (breaks_recoverable alike) es ≡ None
-  cascadeless_recoverable es h =
-      first_none_after (breaks_cascadeless alike) (breaks_recoverable alike) recoverable_cascadeless 1 [] es refl h
+  cascadeless_recoverable es h = cascadeless_recoverable_from 1 [] es refl h
 
   earlier_break : (es : List (Entry K)) (q : ℕ) → breaks (breaks_recoverable alike) es q ≡ true → (p : ℕ) × (p < q) × (breaks (breaks_cascadeless alike) es p ≡ true)
   earlier_break es zero h = absurd (false≢true h)

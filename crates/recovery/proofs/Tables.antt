@@ -1,17 +1,18 @@
 -- Tables of each cue's first endings. Assumes nothing.
 use Rattle.std.proofs.Common.{◌≡◌, ℕ, suc, zero, ◌+◌, ◌-◌, ◌<◌, ◌≤◌, Bool, true, false, ◌&&◌, ◌||◌, cond, List, [], ◌∷◌, ◌++◌, length, get_or, take, set, replicate, Some, None, Option, sym, refl, ap, ◌∙◌, inl, inr, arith}
 use Rattle.std.specs.List.{position_from}
-use Rattle.std.proofs.lemmas.List.{get_or-replicate, get_or-set_same, get_or-set_other, length-take-le, take_more}
+use Rattle.std.proofs.lemmas.List.{get_or-replicate, get_or-set_same, get_or-set_other, length-take, length-take-le, take-take, take_more}
 use Rattle.std.proofs.lemmas.Bool.{and_left, both_ways, eq-eqb, cases_Bool, cases_eq, lt-ltb, le-ltb}
 use Rattle.lists.specs.Lists.{some}
 use Rattle.history.specs.declared.Ending.{Ending}
 use Rattle.history.specs.declared.Ending.TheVariants.{Commit, Abort}
 use Rattle.history.specs.declared.Entry.{Entry}
-use Rattle.history.specs.Entries.{is_cue, by}
+use Rattle.history.specs.Entries.{is_cue, by, acted}
 use Rattle.history.proofs.By.{by_no_cue}
 use Rattle.history.proofs.Committed.{cue_low, cue_high}
 use Rattle.recovery.specs.declared.endings.Ends.{Ends}
-use Rattle.recovery.specs.Endings.{ends_by, first_of, first_noted, is_below, open_ends, Notes}
+use Rattle.recovery.specs.declared.endings.Endings.{Endings}
+use Rattle.recovery.specs.Endings.{ends_by, first_of, first_noted, is_below, open_ends, Notes, Tells}
 
 noted_none : (o : Option ℕ) (i : ℕ) → first_noted o false i ≡ o
 noted_none None i = refl
@@ -112,3 +113,9 @@ table_notes es cues firsts how n i =
       | inl c ↦ ap (λ (t : Bool). is_cue n && t) (some_front (by n (ends_by how)) 0 es i ∙ sym (ap (λ (o : Option ℕ). is_below o (0 + i)) (firsts how n c)) ∙ ap (λ (j : ℕ). is_below (first_of how (get_or cues (n - 1) open_ends)) j) (omega arith))
       | inr c ↦ and_left (is_cue n) _ c ∙ sym (and_left (is_cue n) _ c)
     ]
+
+-- what tables tell of all the entries they tell of their front
+pub tells_take : {K : Type 0} (es : List (Entry K)) (endings : Endings) → Tells es endings → (i : ℕ) → Tells (take i es) endings
+tells_take {K} es endings tells i how n j h =
+    let k = length-take i es in
+    ap (λ (xs : List (Entry K)). acted (ends_by how) xs n) (take-take j i es (omega arith)) ∙ tells how n j (omega arith)
