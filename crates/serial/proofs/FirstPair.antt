@@ -1,7 +1,9 @@
 -- The pair that is found is the first, and no other answer is right.
-use Rattle.std.proofs.Common.{◌≡◌, ℕ, zero, suc, ◌+◌, ◌-◌, ◌<◌, ◌≤◌, Bool, true, false, cond, not, ◌&&◌, eqb, ◌⊎◌, List, [], ◌∷◌, length, get_or, Some, None, Ok, Err, Option, Result, sym, refl, ap, ◌∙◌, subst, inl, inr, arith}
-use Rattle.std.proofs.lemmas.Bool.{and_from, and_parts, both_ways, eq-eqb, eqb-true, ne_eqb, not-true, not_from_false}
+use Rattle.std.proofs.Common.{◌≡◌, ℕ, zero, suc, ◌+◌, ◌-◌, ◌<◌, ◌≤◌, Bool, true, false, cond, not, ◌&&◌, eqb, ◌⊎◌, List, [], ◌∷◌, length, get_or, drop, Some, None, Ok, Err, Option, Result, sym, refl, ap, ◌∙◌, subst, inl, inr, arith}
+use Rattle.std.proofs.lemmas.List.{at_drop_all}
+use Rattle.std.proofs.lemmas.Bool.{and_from, and_left, and_parts, and_right, both_ways, eq-eqb, eqb-true, ne_eqb, not-true, not_from_false}
 use Rattle.lists.specs.Lists.{or_else}
+use Rattle.lists.proofs.Drops.{drop_read}
 use Rattle.refusals.specs.declared.Refusal.{Refusal}
 use Rattle.refusals.specs.declared.Refusal.TheVariants.{CuePair}
 use Rattle.history.specs.declared.Entry.{Entry}
@@ -289,3 +291,46 @@ pub why_is_told_lem : (K : Type 0) → WhyIsTold K
 why_is_told_lem K alike es i j r =
     let a = why_answer alike es i j in
     (λ t. one_told alike i j es r a t (tells alike i j es a refl), tells alike i j es r)
+
+-- turns of a search entry by entry
+module _ {K : Type 0} (alike : K → K → Bool) (i j : ℕ) where
+  -- one turn of the search, at the entry x with index p
+  abbrev turn : ℕ → Entry K → List (Entry K) → Bool → Option Pair
+  turn p x es b = or_else (cond b (pair_with alike j x (p + 1) (p + 1 + 1) (drop (p + 1) es)) None) (pair_from alike i j (p + 1 + 1) (drop (p + 1) es))
+
+  pub turn_in : (es : List (Entry K)) (p : ℕ) (x : Entry K) → p < length es → x ≡ get_or es p x → x.cue ≡ i → turn p x es true ≡ pair_from alike i j (p + 1) (drop p es)
+  turn_in es p x h e t = sym (ap (pair_from alike i j (p + 1)) (drop_read es p x h e) ∙ ap (turn p x es) (eq-eqb x.cue i t))
+
+  pub turn_past : (es : List (Entry K)) (p : ℕ) (x : Entry K) → p < length es → x ≡ get_or es p x → (x.cue ≡ i → ⊥) → pair_from alike i j (p + 1 + 1) (drop (p + 1) es) ≡ pair_from alike i j (p + 1) (drop p es)
+  turn_past es p x h e t = sym (ap (pair_from alike i j (p + 1)) (drop_read es p x h e) ∙ ap (turn p x es) (ne_eqb x.cue i t))
+
+  -- one turn of the search for an entry that answers x, at the entry y with index q
+  abbrev inner : Entry K → ℕ → ℕ → List (Entry K) → Option Pair → Bool → Option Pair
+  inner x p q es rest b = or_else (cond b (Some (record { first = p; second = q + 1 })) (pair_with alike j x p (q + 1 + 1) (drop (q + 1) es))) rest
+
+  inner_step : (es : List (Entry K)) (x : Entry K) (p q : ℕ) (y : Entry K) (rest : Option Pair) (b : Bool) → q < length es → y ≡ get_or es q y → answers alike j x y ≡ b → inner x p q es rest b ≡ or_else (pair_with alike j x p (q + 1) (drop q es)) rest
+  inner_step es x p q y rest b h e t = sym (ap (λ ys. or_else (pair_with alike j x p (q + 1) ys) rest) (drop_read es q y h e) ∙ ap (inner x p q es rest) t)
+
+  pub inner_found : (es : List (Entry K)) (x : Entry K) (p q : ℕ) (y : Entry K) (rest : Option Pair) → q < length es → y ≡ get_or es q y → y.cue ≡ j → true ≡ conflict alike x y → inner x p q es rest true ≡ or_else (pair_with alike j x p (q + 1) (drop q es)) rest
+  inner_found es x p q y rest h e t k = inner_step es x p q y rest true h e (and_from (eqb y.cue j) (conflict alike x y) (eq-eqb y.cue j t) (sym k))
+
+  pub inner_other : (es : List (Entry K)) (x : Entry K) (p q : ℕ) (y : Entry K) (rest : Option Pair) → q < length es → y ≡ get_or es q y → (y.cue ≡ j → ⊥) → inner x p q es rest false ≡ or_else (pair_with alike j x p (q + 1) (drop q es)) rest
+  inner_other es x p q y rest h e t = inner_step es x p q y rest false h e (and_left (eqb y.cue j) (conflict alike x y) (ne_eqb y.cue j t))
+
+  pub inner_past : (es : List (Entry K)) (x : Entry K) (p q : ℕ) (y : Entry K) (rest : Option Pair) → q < length es → y ≡ get_or es q y → false ≡ conflict alike x y → inner x p q es rest false ≡ or_else (pair_with alike j x p (q + 1) (drop q es)) rest
+  inner_past es x p q y rest h e k = inner_step es x p q y rest false h e (and_right (eqb y.cue j) (conflict alike x y) (sym k))
+
+  pub inner_end : (es : List (Entry K)) (x : Entry K) (p q : ℕ) (rest : Option Pair) → length es ≤ q → rest ≡ or_else (pair_with alike j x p (q + 1) (drop q es)) rest
+  inner_end es x p q rest h = sym (ap (λ o. or_else o rest) (at_drop_all (pair_with alike j x p (q + 1)) es q h))
+
+  pub outer_end : (es : List (Entry K)) (p : ℕ) → length es ≤ p → None ≡ pair_from alike i j (p + 1) (drop p es)
+  outer_end es p h = sym (at_drop_all (pair_from alike i j (p + 1)) es p h)
+
+  abbrev answer : List (Entry K) → Bool → Result (Option Pair) Refusal
+  answer es b = cond b (Ok (why_of alike es i j)) (Err CuePair)
+
+  pub answered : (es : List (Entry K)) (o : Option Pair) → true ≡ two_cues i j → o ≡ why_of alike es i j → Ok o ≡ why_answer alike es i j
+  answered es o t e = ap Ok e ∙ ap (answer es) t
+
+  pub refused : (es : List (Entry K)) → false ≡ two_cues i j → Err CuePair ≡ why_answer alike es i j
+  refused es t = ap (answer es) t
