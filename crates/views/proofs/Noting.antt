@@ -1,11 +1,15 @@
 -- What notes leave in the tables, one after another. Assumes nothing.
 use Rattle.std.proofs.Common.{◌≡◌, ℕ, ◌+◌, ◌<◌, ◌≤◌, Bool, true, false, ◌&&◌, ◌||◌, eqb, ltb, length, set, Some, sym, refl, ap, ◌∙◌, inl, inr, arith}
-use mathlib.Core.Bool.{or_assoc, or-false}
-use Rattle.std.proofs.lemmas.Bool.{and_from, and_left, and_parts, and_right, cases_eq, cases_lt, eq-eqb, eqb-false, eqb-true, lt-ltb, le-ltb, or_right}
+use mathlib.Core.Bool.{and-true, or_assoc, or-false}
+use Rattle.std.proofs.lemmas.Bool.{and_from, and_left, and_parts, and_right, cases_Bool, cases_eq, cases_lt, eq-eqb, eqb-false, eqb-true, lt-ltb, le-ltb, or_right}
 use Rattle.views.specs.declared.constraints.Constraints.{Constraints}
 use Rattle.views.specs.Noted.{Notes, none_ahead, none_apart}
 use Rattle.views.specs.Tables.{pair_in, triple_in, ahead_in, apart_in}
 use Rattle.views.proofs.Ranking.{members_few, pair_same, triple_same, told_set}
+
+-- nothing is noted
+pub notes_none : (t : Constraints) → Notes none_ahead none_apart t t
+notes_none t = record { members = refl; ahead = λ a b. sym (or-false (ahead_in t a b)); apart = λ j r n. sym (or-false (apart_in t j r n)) }
 
 -- other tests that say the same
 pub notes_same : (before before' : ℕ → ℕ → Bool) (between between' : ℕ → ℕ → ℕ → Bool) (t t' : Constraints) → ((a b : ℕ) → before a b ≡ before' a b) → ((j r n : ℕ) → between j r n ≡ between' j r n) → Notes before between t t' → Notes before' between' t t'
@@ -69,6 +73,13 @@ one_more true test below false below' f g = or-false (test && below) ∙ ap (λ 
 
 -- a loop over the cues, of which those below n had their turn
 module _ (given : Bool) (test : ℕ → Bool) where
+  pub upto_none : test 0 ≡ false → (m : ℕ) → ((given && test m) && ltb m 1) ≡ false
+  upto_none e m =
+      elim (cases_eq m 0) [
+        | inl z ↦ and_left (given && test m) (ltb m 1) (and_right given (test m) (ap test z ∙ e))
+        | inr some ↦ and_right (given && test m) (ltb m 1) (le-ltb m 1 (past_more m 0 (omega arith) some))
+      ]
+
   pub upto_more : (n : ℕ) → test n ≡ true → (m : ℕ) → (((given && test m) && ltb m n) || (given && eqb m n)) ≡ ((given && test m) && ltb m (n + 1))
   upto_more n e m =
       one_more given (test m) (ltb m n) (eqb m n) (ltb m (n + 1))
@@ -82,4 +93,13 @@ module _ (given : Bool) (test : ℕ → Bool) where
             let none : (given && test m) ≡ false = and_right given (test m) (ap test same ∙ e) in
             and_left (given && test m) (ltb m n) none ∙ sym (and_left (given && test m) (ltb m (n + 1)) none)
         | inr ne ↦ ap (λ (x : Bool). (given && test m) && x) (reach m n ne)
+      ]
+
+  pub upto_all : (n m : ℕ) → (test m ≡ true → m < n) → ((given && test m) && ltb m n) ≡ (given && test m)
+  upto_all n m low =
+      elim (cases_Bool (test m)) [
+        | inl e ↦ ap (λ (x : Bool). (given && test m) && x) (lt-ltb m n (low e)) ∙ and-true (given && test m)
+        | inr e ↦
+            let none : (given && test m) ≡ false = and_right given (test m) e in
+            and_left (given && test m) (ltb m n) none ∙ sym none
       ]

@@ -3,7 +3,7 @@ use Rattle.std.proofs.Common.{◌≡◌, ℕ, zero, suc, ◌+◌, ◌-◌, ◌<�
 use Rattle.std.specs.Option.{option_map}
 use Rattle.std.specs.List.{AllByRecursion as All}
 use Rattle.std.proofs.ByRecursion.{All-weaker, All-get_or}
-use Rattle.std.proofs.lemmas.List.{at_drop_more}
+use Rattle.std.proofs.lemmas.List.{at_drop_more, at_drop_all, nil_from_length}
 use Rattle.std.proofs.lemmas.Bool.{cond-true, cond-false, both_ways, cases_Bool, eq-eqb, eqb-true, not_from_false, or_left, or_right}
 use Rattle.lists.specs.Lists.{some, or_else, has}
 use Rattle.orders.specs.Least.{Distinct}
@@ -66,6 +66,14 @@ module _ (p : Placing) where
   -- the first order that starts with one of the cues xs
   abbrev pub Tried : List ℕ → Option (List ℕ)
   Tried xs = try_all (ahead_by p) (apart_by p) (placed_of p) (left_of p) (left_in xs p.placed)
+
+  -- with none left, the order is whole
+  pub rest_none : length (left_of p) ≡ 0 → rest_of p ≡ Some []
+  rest_none e = ap (λ (us : List ℕ). first_where (fits_after (ahead_by p) (apart_by p) (placed_of p)) (orders us)) (nil_from_length (left_of p) e)
+
+  -- none of them is left to try
+  pub rest_end : (cues : List ℕ) (k : ℕ) → length cues ≤ k → Tried (drop k cues) ≡ rest_of p → rest_of p ≡ None
+  rest_end cues k h inv = sym inv ∙ at_drop_all Tried cues k h
 
   module _ (cues : List ℕ) (is : cues ≡ all_of p) where
     pub rest_tried : 0 < length (left_of p) → Tried cues ≡ rest_of p

@@ -1,8 +1,8 @@
 -- The cues that write an item, met one entry after another. Assumes nothing.
-use Rattle.std.proofs.Common.{◌≡◌, ℕ, ◌+◌, ◌-◌, ◌<◌, Bool, true, false, cond, ◌&&◌, ◌||◌, eqb, List, [], ◌∷◌, ◌++◌, length, get_or, take, set, replicate, Some, None, Option, sym, refl, ap, ◌∙◌, inl, inr, arith}
+use Rattle.std.proofs.Common.{◌≡◌, ℕ, ◌+◌, ◌-◌, ◌<◌, ◌≤◌, Bool, true, false, cond, ◌&&◌, ◌||◌, eqb, List, [], ◌∷◌, ◌++◌, length, get_or, take, set, replicate, Some, None, Option, sym, refl, ap, ◌∙◌, inl, inr, arith}
 use mathlib.Core.Bool.{and-true, or-false}
 use Rattle.std.specs.Option.{option_map}
-use Rattle.std.proofs.lemmas.List.{get_or-replicate, get_or-set_same, get_or-set_other, length-replicate, length-set, take_more}
+use Rattle.std.proofs.lemmas.List.{get_or-replicate, get_or-set_same, get_or-set_other, length-replicate, length-set, take_all, take_more}
 use Rattle.std.proofs.lemmas.Bool.{and_from, and_left, and_parts, and_right, cases_Bool, cases_eq, eq-eqb, eqb-true, ne_eqb, or_right}
 use Rattle.lists.specs.Lists.{some, or_else, last_where}
 use Rattle.lists.proofs.Last.{last_passes, last_push}
@@ -115,3 +115,10 @@ module _ {K : Type 0} (alike : K → K → Bool) (c : ℕ → Bool) (k : K) wher
               ∙ sym (writer_more ws i w h e n);
           last = had.last ∙ sym (last_more ws i w h e ∙ ap (λ (b : Bool). option_map (λ (x : Entry K). x.cue) (or_else (cond b (Some w) None) (last_where (sets alike c k) (take i ws)))) fails);
         }
+
+  module _ (ws : List (Entry K)) (i : ℕ) (found : List Bool) (latest : Option ℕ) (had : Found ws i found latest) (end : length ws ≤ i) where
+    pub found_marks : (n : ℕ) → marked found n ≡ writer alike c k ws n
+    found_marks n = had.marks n ∙ ap (λ (xs : List (Entry K)). writer alike c k xs n) (take_all i ws end)
+
+    pub found_last : latest ≡ last_writer alike c k ws
+    found_last = had.last ∙ ap (λ (xs : List (Entry K)). last_writer alike c k xs) (take_all i ws end)
