@@ -89,21 +89,20 @@ module _ {K : Type 0} (alike : K → K → Bool) (es : List (Entry K)) where
     same_order : conflict_order alike es ≡ first_where (follows (drawn g.edges)) (orders (among (marked g.cues)))
     same_order = sym (first_order alike es (drawn g.edges) same_edges (marked g.cues) draws.numbers)
 
-    same_refusal : (list strip : List ℕ) (r : Result Found Refusal) → refusal_in r ≡ search_refusal (marked g.cues) (length list) (length strip) → refusal_in r ≡ order_refusal es (length list) (length strip)
-    same_refusal list strip r h =
-        h ∙ ap (λ (us : List ℕ). cond (ltb (length strip) 64) (Some StripShort) (cond (ltb (length list) (length us)) (Some ListShort) None)) same_numbers
+    pub same_refusal : (cells bytes : ℕ) → search_refusal (marked g.cues) cells bytes ≡ order_refusal es cells bytes
+    same_refusal cells bytes = ap (λ (us : List ℕ). cond (ltb bytes 64) (Some StripShort) (cond (ltb cells (length us)) (Some ListShort) None)) same_numbers
 
     pub answered : (list list' strip : List ℕ) → length list' ≡ length list → (r : Result Found Refusal) → refusal_in r ≡ search_refusal (marked g.cues) (length list) (length strip) → Lists (marked g.cues) (drawn g.edges) list list' r → Answered list list' strip r
     answered list list' strip long (Ok (Order n)) refuses found =
-        let taken = same_refusal list strip (Ok (Order n)) refuses in
+        let taken = refuses ∙ same_refusal (length list) (length strip) in
         let all = found.all ∙ ap length same_numbers in
         order_answered list list' strip long n (omega (arith, roomy list strip taken, all)) taken (same_order ∙ found.first) found.rest
     answered list list' strip long (Ok (Cycle n)) refuses found =
-        let taken = same_refusal list strip (Ok (Cycle n)) refuses in
+        let taken = refuses ∙ same_refusal (length list) (length strip) in
         cycle_answered list list' strip long n found.fits taken (same_order ∙ found.none)
         (conflict_cycle alike es (drawn g.edges) same_edges (marked g.cues) draws.numbers (take n list') found.cycle) found.rest
     answered list list' strip long (Err e) refuses same =
-        let refused = same_refusal list strip (Err e) refuses in
+        let refused = refuses ∙ same_refusal (length list) (length strip) in
         record {
           answer = ap (λ (o : Option Refusal). answer_by o (conflict_order alike es) []) refused;
           cells = same ∙ ap (λ (o : Option Refusal). list_by o (conflict_order alike es) [] list) refused;

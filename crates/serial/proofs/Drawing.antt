@@ -111,6 +111,12 @@ and_or true false s t = refl
 and_or false b s t = refl
 
 module _ {K : Type 0} (alike : K → K → Bool) (cues : List Bool) (es : List (Entry K)) where
+  pub drawing_all : (x : Entry K) (q : ℕ) (start row : List Bool) → drop q es ≡ [] → Drawing alike cues x es q start row → Adds alike cues start row x es
+  drawing_all x q start row e all j =
+      let test = joins alike x.cue j x in
+      let none : (marked cues j && some test (drop q es)) ≡ false = and_right (marked cues j) (some test (drop q es)) (ap (some test) e) in
+      sym (or_none (marked row j)) ∙ ap (λ (b : Bool). marked row j || b) (sym none) ∙ all j
+
   -- both are marked, and it holds
   abbrev pub between : (i j : ℕ) → Bool → Bool
   between i j holds = marked cues i && (marked cues j && holds)
