@@ -1,6 +1,6 @@
 -- What an accepted entry does to a book. Assumes nothing.
-use Rattle.std.proofs.Common.{◌≡◌, ℕ, suc, ◌+◌, ◌-◌, ◌<◌, ◌≤◌, Bool, true, false, cond, not, leb, List, [], ◌∷◌, ◌++◌, length, take, drop, set, Ok, Err, sym, refl, ap, ◌∙◌, arith}
-use Rattle.std.proofs.lemmas.List.{append_assoc, length-set, length-take-le, length_push, set_split, take_more_set}
+use Rattle.std.proofs.Common.{◌≡◌, ℕ, suc, ◌+◌, ◌-◌, ◌<◌, ◌≤◌, min, Bool, true, false, cond, not, leb, List, [], ◌∷◌, ◌++◌, length, take, drop, set, Ok, Err, sym, refl, ap, ◌∙◌, arith}
+use Rattle.std.proofs.lemmas.List.{append_assoc, length-set, length-take, length-take-le, length_push, set_split, take_more_set}
 use Rattle.std.proofs.lemmas.Slice.{drop-append-drop}
 use Rattle.lists.proofs.Takes.{take_drop_length}
 use Rattle.std.proofs.lemmas.Bool.{leb-false}
@@ -25,15 +25,26 @@ module _ {K : Type 0} where
   pub entered_free : (places : ℕ) (es : List (Entry K)) (n p : ℕ) → entered places es n ≡ Ok p → Free places (length es) p
   entered_free places es n p is = free_by (is_cue n) (ended es n) (leb places (length es)) places (length es) p refl is
 
+  -- the place lies in the memory, right after the entries
+  pub place_within : (len : ℕ) (memory : List (Entry K)) (p : ℕ) → Free (min (length memory) 4096) (length (take len memory)) p → (p ≡ len + 1) × (len < length memory)
+  place_within len memory p free =
+      let m = length-take len memory in
+      (omega (arith, m, free.next, free.fits), omega (arith, m, free.fits))
+
+  pub grows : (len : ℕ) (memory : List (Entry K)) (p : ℕ) (e : Entry K) → Free (min (length memory) 4096) (length (take len memory)) p → take p (set memory (p - 1) e) ≡ take len memory ++ e ∷ []
+  grows len memory p e free =
+      let w = place_within len memory p free in
+      let back : p - 1 ≡ len = omega (arith, w.0) in
+      (λ i. take (w.0 i) (set memory (back i) e)) ∙ take_more_set memory len e w.1
+
   -- a call that accepts nothing
   pub lays_none : (b : Book K) → Lays b b
   lays_none b = record { memory = sym (take_drop_length b.len b.memory.now); size = refl; count = omega arith; lender = refl }
 
-  -- a call that accepts one entry
-  pub lays_one : (b after : Book K) (p : ℕ) (e : Entry K) → entered (room b) (accepted b) e.cue ≡ Ok p → after.memory.now ≡ set b.memory.now (p - 1) e → after.len ≡ p → after.memory.ghost_name ≡ b.memory.ghost_name → Lays b after
-  lays_one b after p e is put len lender =
+  -- a call that accepts one entry, at a place that is free
+  pub lays_free : (b after : Book K) (p : ℕ) (e : Entry K) → Free (room b) (length (accepted b)) p → after.memory.now ≡ set b.memory.now (p - 1) e → after.len ≡ p → after.memory.ghost_name ≡ b.memory.ghost_name → Lays b after
+  lays_free b after p e free put len lender =
       let memory = b.memory.now in
-      let free = entered_free (room b) (accepted b) e.cue p is in
       let many = length-take-le b.len memory b.within in
       let spare : b.len < length memory = omega (arith, free.fits, many) in
       let next : p ≡ b.len + 1 = omega (arith, free.next, many) in
@@ -51,6 +62,10 @@ module _ {K : Type 0} where
         count = omega (arith, len, next, more, many);
         lender = lender;
       }
+
+  -- the same, where the place was answered
+  pub lays_one : (b after : Book K) (p : ℕ) (e : Entry K) → entered (room b) (accepted b) e.cue ≡ Ok p → after.memory.now ≡ set b.memory.now (p - 1) e → after.len ≡ p → after.memory.ghost_name ≡ b.memory.ghost_name → Lays b after
+  lays_one b after p e is put len lender = lays_free b after p e (entered_free (room b) (accepted b) e.cue p is) put len lender
 
   -- two calls, one after the other
   pub lays_two : (a b c : Book K) → Lays a b → Lays b c → length (accepted a) ≤ length (accepted b) → length (accepted b) ≤ length (accepted c) → Lays a c

@@ -12,6 +12,10 @@ use Rattle.refusals.specs.declared.Layer.TheVariants.{Line}
 use Rattle.book.specs.Entering.{entered}
 use Rattle.book.specs.Reading.{lines_by, lines_of, of_book, of_line, line_entered, some, next_entered, told, added, step, read_from}
 
+-- the lines of what remains
+pub lines_none : (bs : List ℕ) → length bs ≡ 0 → lines_of bs ≡ []
+lines_none bs e = ap (λ (n : ℕ). lines_by ((n + 15) / 16) bs) e
+
 pub lines_more : (bs : List ℕ) → 0 < length bs → lines_of bs ≡ take 16 bs ∷ lines_of (drop 16 bs)
 lines_more bs h =
     let left = length-drop 16 bs in
