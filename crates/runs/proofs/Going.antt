@@ -1,6 +1,7 @@
 -- A run, call after call. Assumes nothing.
-use Rattle.std.proofs.Common.{◌≡◌, ℕ, ◌+◌, ◌-◌, ◌<◌, ◌≤◌, min, Bool, List, [], ◌∷◌, ◌++◌, length, get_or, take, drop, set, Some, None, Ok, Err, Option, Result, sym, refl, ap, ◌∙◌, subst, arith}
+use Rattle.std.proofs.Common.{◌≡◌, ℕ, ◌+◌, ◌-◌, ◌<◌, ◌≤◌, min, Bool, cond, ltb, List, [], ◌∷◌, ◌++◌, length, get_or, take, drop, set, Some, None, Ok, Err, Option, Result, sym, refl, ap, ◌∙◌, subst, arith}
 use Rattle.std.proofs.lemmas.List.{length-append, length-set, length-take-le, take_all, take_more, take_more_set, take-append-drop, drop-set-lt, drop-drop}
+use Rattle.std.proofs.lemmas.Bool.{cond-false, le-ltb}
 use Rattle.refusals.specs.declared.Refusal.{Refusal}
 use Rattle.history.specs.declared.Entry.{Entry}
 use Rattle.book.specs.declared.Book.{Book}
@@ -12,10 +13,17 @@ use Rattle.runs.specs.declared.Answer.{Answer}
 use Rattle.runs.specs.declared.Call.{Call}
 use Rattle.runs.specs.declared.Call.TheVariants as call
 use Rattle.runs.specs.declared.Failure.{Failure}
+use Rattle.runs.specs.declared.Want.TheVariants as want
 use Rattle.runs.specs.declared.held.Held.{Held}
 use Rattle.runs.specs.Holding.{tickets_of, so_far, Keeps}
-use Rattle.runs.specs.Runs.{State, start, ticket_at, more, used_by, used, accepts, gives, after, after_all, Right, AllRight, Performed}
+use Rattle.runs.specs.Runs.{State, start, ticket_at, more, used_by, used, accepts, gives, after, after_all, Right, AllRight, Performed, wanted}
 use Rattle.runs.proofs.Law.{lawful}
+
+-- nothing is wanted where there is a cell for each call
+pub wanted_none : (calls answers cells : ℕ) → calls ≤ answers → calls ≤ cells → Ok tt ≡ wanted calls answers cells
+wanted_none calls answers cells h k =
+    sym (cond-false (ltb answers calls) (Err want.Answers) (cond (ltb cells calls) (Err want.Tickets) (Ok tt)) (le-ltb answers calls h)
+    ∙ cond-false (ltb cells calls) (Err want.Tickets) (Ok tt) (le-ltb cells calls k))
 
 -- a call gives one ticket at most
 more_few : (ts : List (Option Ticket)) (r : Result Ticket Refusal) → length (more ts r) ≤ length ts + 1
