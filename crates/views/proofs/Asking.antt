@@ -1,11 +1,15 @@
 -- What a read and a write ask, from what the helpers note. Assumes nothing.
 use Rattle.std.proofs.Common.{◌≡◌, ℕ, Bool, true, false, not, ◌&&◌, ◌||◌, eqb, List, Some, None, Option, sym, refl, ap, ◌∙◌, subst}
 use mathlib.Core.Bool.{and-true, or-false}
-use Rattle.std.proofs.lemmas.Bool.{ne_eqb, not_from_false}
+use Rattle.std.proofs.lemmas.Bool.{and_right, ne_eqb, not_from_false}
+use Rattle.history.specs.declared.Act.{Act}
+use Rattle.history.specs.declared.Act.TheVariants.{Read, Write, Commit, Abort}
 use Rattle.history.specs.declared.Entry.{Entry}
+use Rattle.history.specs.Conflicts.{reads, writes}
 use Rattle.history.specs.Marked.{marked}
 use Rattle.equivalence.specs.Constraints.{writer, last_writer, read_hides, read_ahead, read_apart, write_ahead, apart}
 use Rattle.views.specs.declared.constraints.Constraints.{Constraints}
+use Rattle.views.specs.Tables.{ahead_in, apart_in, Asks}
 use Rattle.views.specs.Noted.{Notes, Member, Within, none_ahead, none_apart, first, PutsAhead, PutsFirst, split, PutsBetween, ReadBy, AskedRead, AskedWrite}
 use Rattle.views.proofs.Noting.{notes_same, notes_two}
 use Rattle.views.proofs.Putting.{same_member}
@@ -77,3 +81,31 @@ module _ {K : Type 0} (alike : K → K → Bool) (t : Constraints) where
               subst (λ (o : Option ℕ). WriteBy o t') (sym e ∙ is_last)
               (notes_same (λ a b. eqb a i && eqb b l) (write_ahead alike member i (Some l)) none_apart none_apart t t'
               (λ a b. ap (λ (x : Bool). eqb a i && x) (sym (and-true (eqb b l)) ∙ ap (λ (x : Bool). eqb b l && x) (sym other))) (λ j r n. refl) (put ci cl))
+
+module _ {K : Type 0} where
+  no_reads : (test : K → Bool) (a : Act K) → ((k : K) → a ≡ Read k → ⊥) → reads test a ≡ false
+  no_reads test (Read k) h = absurd (h k refl)
+  no_reads test (Write k) h = refl
+  no_reads test Commit h = refl
+  no_reads test Abort h = refl
+
+  no_writes : (test : K → Bool) (a : Act K) → ((k : K) → a ≡ Write k → ⊥) → writes test a ≡ false
+  no_writes test (Read k) h = refl
+  no_writes test (Write k) h = absurd (h k refl)
+  no_writes test Commit h = refl
+  no_writes test Abort h = refl
+
+-- an entry that is no read and no write asks nothing
+module _ {K : Type 0} (alike : K → K → Bool) (t : Constraints) (before : List (Entry K)) (e : Entry K) (after : List (Entry K)) where
+  pub asks_none : ((k : K) → e.act ≡ Read k → ⊥) → ((k : K) → e.act ≡ Write k → ⊥) → Asks alike t t before e after
+  asks_none not-read not-write =
+      record {
+        members = refl;
+        shown = and_right (marked t.members.cues e.cue) _ (no_reads _ e.act not-read);
+        ahead = λ a b.
+            sym (or-false (ahead_in t a b))
+            ∙ ap (λ (x : Bool). ahead_in t a b || x) (sym (and_right (marked t.members.cues e.cue) _ ((λ i. no_reads (λ k. read_ahead alike (marked t.members.cues) k e.cue after (last_writer alike (marked t.members.cues) k before) a b) e.act not-read i || no_writes (λ k. write_ahead alike (marked t.members.cues) e.cue (last_writer alike (marked t.members.cues) k after) a b) e.act not-write i))));
+        apart = λ j r n.
+            sym (or-false (apart_in t j r n))
+            ∙ ap (λ (x : Bool). apart_in t j r n || x) (sym (and_right (marked t.members.cues e.cue) _ (no_reads (λ k. read_apart alike (marked t.members.cues) k e.cue before after (last_writer alike (marked t.members.cues) k before) j r n) e.act not-read)));
+      }

@@ -1,10 +1,14 @@
 -- The members in rising order, met one number after another. Assumes nothing.
-use Rattle.std.proofs.Common.{◌≡◌, ℕ, zero, suc, ◌+◌, ◌-◌, ◌<◌, ◌≤◌, Bool, true, false, cond, List, [], ◌∷◌, ◌++◌, length, take, set, filter, sym, refl, ap, ◌∙◌, inl, inr, arith}
-use Rattle.std.specs.List.{range_with_len}
-use Rattle.std.proofs.lemmas.List.{length-set, take_more_set}
-use Rattle.std.proofs.lemmas.Bool.{cases_Bool, cases_lt}
+use Rattle.std.proofs.Common.{◌≡◌, ℕ, zero, suc, ◌+◌, ◌-◌, ◌<◌, ◌≤◌, Bool, true, false, cond, eqb, ltb, List, [], ◌∷◌, ◌++◌, length, take, get_or, set, filter, Some, None, sym, refl, ap, ◌∙◌, inl, inr, arith}
+use Rattle.std.specs.List.{range_with_len, position, position_or_len}
+use Rattle.std.proofs.lemmas.List.{get_or-set_same, get_or-set_other, length-set, take_more_set}
+use Rattle.std.proofs.lemmas.Bool.{both_ways, cases_Bool, cases_eq, cases_lt, eq-eqb, ne_eqb, lt-ltb, le-ltb}
 use Rattle.orders.specs.Orders.{among}
 use Rattle.orders.proofs.Among.{kept_yes}
+use Rattle.history.specs.Marked.{marked}
+use Rattle.history.proofs.Committed.{cue_low, cue_high}
+use Rattle.history.proofs.Marks.{marked_cue}
+use Rattle.views.specs.Ranks.{rank_by, rank_in}
 
 -- the numbers below n that pass
 abbrev below : (ℕ → Bool) → ℕ → List ℕ
@@ -83,3 +87,88 @@ module _ (c : ℕ → Bool) (n : ℕ) (numbers : List ℕ) (count : ℕ) (low : 
 
 pub listed_all : (c : ℕ → Bool) (n : ℕ) (numbers : List ℕ) (count : ℕ) → n ≡ 65 → Listed c n numbers count → take count numbers ≡ among c
 listed_all c n numbers count e inv = inv.front ∙ below_all c n e
+
+-- the table has the ranks of the cues below n that are looked at: how many there are before each
+pub record Ranked (c : ℕ → Bool) (n : ℕ) (ranks : List ℕ) : Type 0 where
+  pub long : length ranks ≡ 64
+  pub rank : (j : ℕ) → 1 ≤ j → j < n → c j ≡ true → get_or ranks (j - 1) 0 ≡ length (below c j)
+
+module _ (c : ℕ → Bool) (n : ℕ) (ranks : List ℕ) (low : 1 ≤ n) (inv : Ranked c n ranks) where
+  pub ranked_no : c n ≡ false → Ranked c (n + 1) ranks
+  ranked_no f =
+      record {
+        long = inv.long;
+        rank =
+            λ j l h t.
+            elim (cases_eq j n) [
+              | inl e ↦ let z : c n ≡ true = ap c (sym e) ∙ t in absurd (both_ways (c n) f z)
+              | inr ne ↦ inv.rank j l (omega arith) t
+            ];
+      }
+
+  pub ranked_yes : (count : ℕ) → n ≤ 64 → count ≡ length (below c n) → Ranked c (n + 1) (set ranks (n - 1) count)
+  ranked_yes count high is =
+      record {
+        long = length-set ranks (n - 1) count ∙ inv.long;
+        rank =
+            λ j l h t.
+            elim (cases_eq j n) [
+              | inl e ↦
+                  ap (λ (k : ℕ). get_or (set ranks (n - 1) count) (k - 1) 0) e
+                  ∙ get_or-set_same ranks (n - 1) count 0 (omega (arith, inv.long))
+                  ∙ is
+                  ∙ ap (λ (k : ℕ). length (below c k)) (sym e)
+              | inr ne ↦ get_or-set_other ranks (n - 1) (j - 1) count 0 (λ z. ne (omega arith)) ∙ inv.rank j l (omega arith) t
+            ];
+      }
+
+module _ (c : ℕ → Bool) (j : ℕ) where
+  -- a number that passes stands behind those before it that do
+  place : (a d m : ℕ) → a + d ≡ j → d < m → c j ≡ true → position_or_len (λ x. eqb x j) (filter c (range_with_len a m)) ≡ length (filter c (range_with_len a d))
+  place a d zero e h t = absurd (omega arith)
+  place a zero (suc m) e h t =
+      let q : a ≡ j = omega arith in
+      let here : c a ≡ true = ap c q ∙ t in
+      let same : eqb a j ≡ true = eq-eqb a j q in
+      rw (here, same) refl
+  place a (suc d) (suc m) e h t =
+      let ih : position_or_len (λ x. eqb x j) (filter c (range_with_len (a + 1) m)) ≡ length (filter c (range_with_len (a + 1) d)) = place (a + 1) d m (omega arith) (omega arith) t in
+      let other : eqb a j ≡ false = ne_eqb a j (λ z. omega arith) in
+      elim (cases_Bool (c a)) [ inl y ↦ rw (y, other, ih) (omega arith) | inr f ↦ rw f ih ]
+
+  -- and one that does not stands nowhere
+  absent : (a m : ℕ) → c j ≡ false → position_or_len (λ x. eqb x j) (filter c (range_with_len a m)) ≡ length (filter c (range_with_len a m))
+  absent a zero f = refl
+  absent a (suc m) f =
+      let ih : position_or_len (λ x. eqb x j) (filter c (range_with_len (a + 1) m)) ≡ length (filter c (range_with_len (a + 1) m)) = absent (a + 1) m f in
+      elim (cases_Bool (c a)) [
+        | inl y ↦
+            let other : eqb a j ≡ false = ne_eqb a j (λ z. both_ways (c j) f (ap c (sym z) ∙ y)) in
+            rw (y, other, ih) (omega arith)
+        | inr n ↦ rw n ih
+      ]
+
+  pub position_yes : 1 ≤ j → j ≤ 64 → c j ≡ true → position (λ x. eqb x j) (among c) ≡ Some (length (below c j))
+  unfolding among
+  position_yes low high t =
+      let at : position_or_len (λ x. eqb x j) (filter c (range_with_len 1 64)) ≡ length (below c j) = place 1 (j - 1) 64 (omega arith) (omega arith) t in
+      let less : length (below c j) < length (filter c (range_with_len 1 64)) = omega (arith, long_yes c j low t, long_after c (j + 1) (64 - j) 65 (omega arith) (omega arith)) in
+      rw (at, lt-ltb (length (below c j)) (length (filter c (range_with_len 1 64))) less) refl
+
+  pub position_no : c j ≡ false → position (λ x. eqb x j) (among c) ≡ None
+  unfolding among
+  position_no f =
+      let at : position_or_len (λ x. eqb x j) (filter c (range_with_len 1 64)) ≡ length (filter c (range_with_len 1 64)) = absent 1 64 f in
+      rw (at, le-ltb (length (filter c (range_with_len 1 64))) (length (filter c (range_with_len 1 64))) (omega arith)) refl
+
+-- when all are looked at the table tells the rank of each number
+pub ranked_all : (cues : List Bool) (n : ℕ) (ranks : List ℕ) → n ≡ 65 → Ranked (marked cues) n ranks → (j : ℕ) → rank_by cues ranks j ≡ rank_in cues j
+ranked_all cues n ranks e inv j =
+    elim (cases_Bool (marked cues j)) [
+      | inl t ↦
+          let cue = marked_cue cues j t in
+          let low = cue_low j cue in
+          let high = cue_high j cue in
+          rw t (ap (λ (k : ℕ). Some k) (inv.rank j low (omega arith) t) ∙ sym (position_yes (marked cues) j low high t))
+      | inr f ↦ rw f (sym (position_no (marked cues) j f))
+    ]

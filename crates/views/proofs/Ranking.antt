@@ -13,7 +13,8 @@ use Rattle.history.specs.Marked.{marked}
 use Rattle.history.proofs.Committed.{cue_low, cue_high}
 use Rattle.history.proofs.Marks.{marked_cue}
 use Rattle.views.specs.declared.members.Members.{Members}
-use Rattle.views.specs.Tables.{rank_in, digit, pair_in, triple_in, told}
+use Rattle.views.specs.Ranks.{rank_in}
+use Rattle.views.specs.Tables.{digit, pair_in, triple_in, told}
 
 pub members_few : (m : Members) → length (among (marked m.cues)) ≤ 8
 members_few m = omega (arith, sym (ap length m.rising), length-take m.count m.numbers, m.few)

@@ -1,5 +1,6 @@
 pub mod Answer
 pub mod RefusalLaws
+pub mod Ranks
 pub mod Tables
 pub mod Noted
 pub mod Shown

@@ -1,16 +1,11 @@
 -- The constraints between no more than eight committed cues, in tables. Assumes nothing.
-use Rattle.std.specs.Prelude.{◌≡◌, ℕ, ◌+◌, ◌*◌, Bool, true, false, ◌||◌, List, Some, None, Option, slice_index_or, ◌==◌}
-use Rattle.std.specs.List.{position}
-use Rattle.orders.specs.Orders.{among}
+use Rattle.std.specs.Prelude.{◌≡◌, ℕ, ◌+◌, ◌*◌, Bool, true, false, ◌||◌, List, Some, None, Option, slice_index_or}
 use Rattle.history.specs.declared.Entry.{Entry}
 use Rattle.history.specs.Entries.{committed}
 use Rattle.history.specs.Marked.{marked}
 use Rattle.equivalence.specs.Constraints.{hides, ahead, apart, is_hidden, is_ahead, is_apart}
+use Rattle.views.specs.Ranks.{rank_in}
 use Rattle.views.specs.declared.constraints.Constraints.{Constraints}
-
--- the rank of a cue among those that a table marks
-abbrev pub rank_in : List Bool → ℕ → Option ℕ
-rank_in cues n = position (λ m. m == n) (among (marked cues))
 
 -- one more digit, of base 8
 abbrev pub digit : Option ℕ → Option ℕ → Option ℕ

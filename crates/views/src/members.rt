@@ -4,24 +4,28 @@ ghost use Rattle.orders.specs.Orders.{among};
 ghost use Rattle.history.specs.Entries.{committed};
 ghost use Rattle.history.specs.Marked.{marked};
 ghost use Rattle.history.specs.Order.{committed_cues};
+ghost use Rattle.views.specs.Ranks.{rank_in, rank_by};
 
 use history::{Entry, committed_cues, is_marked};
 
 // How many committed cues have views.
 pub const MOST: usize = 8;
 
-// The cues that a table marks, and their numbers in rising order: an array and a count, as there is no heap.
+// The cues that a table marks, and their numbers in rising order: an array and a count, as there is no heap. The rank of each
+// stands in its cell of a table, since the search asks for ranks at every step.
 #[derive(Clone, Copy)]
 pub struct Members {
     pub cues: [bool; 64],
     numbers: [u32; MOST],
     count: usize,
+    ranks: [usize; 64],
     ghost few: { count ≤ 8 },
     ghost rising: { take count numbers ≡ among (marked cues) },
+    ghost ranked: { (n : ℕ) → rank_by cues ranks n ≡ rank_in cues n },
 }
 
 impl Members {
-    ghost use Rattle.views.specs.Tables.{rank_in, pair_in, triple_in};
+    ghost use Rattle.views.specs.Tables.{pair_in, triple_in};
 
     pub fn numbers(&self) -> &[u32]
         ensures { result.now ≡ among (marked self.now.cues) }
@@ -40,7 +44,11 @@ impl Members {
         ensures is { result ≡ rank_in self.now.cues n }
         ensures small { IfSome result (λ r. r < 8) }
     {
-        self.numbers().iter().position(|m| *m == n)
+        if self.has(n) {
+            Some(self.ranks[n as usize - 1])
+        } else {
+            None
+        }
     }
 
     // The ranks of two cues as the digits of a number.
@@ -69,11 +77,13 @@ pub fn members_of<K>(entries: &[Entry<K>]) -> Option<Members>
     let cues = committed_cues(entries);
     let mut numbers = [0; MOST];
     let mut count = 0;
+    let mut ranks = [0; 64];
     for n in 1..65u32 {
         if is_marked(&cues, n) {
             if count == MOST {
                 return None;
             }
+            ranks[n as usize - 1] = count;
             numbers[count] = n;
             count += 1;
         }
@@ -82,5 +92,6 @@ pub fn members_of<K>(entries: &[Entry<K>]) -> Option<Members>
         cues,
         numbers,
         count,
+        ranks,
     })
 }

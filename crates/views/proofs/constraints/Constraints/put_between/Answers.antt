@@ -1,7 +1,7 @@
-use Rattle.std.proofs.Common.{◌+◌, sym, subst}
+use Rattle.std.proofs.Common.{◌+◌, sym, subst, arith}
 use Rattle.views.specs.declared.constraints.Constraints.{Constraints}
 use Rattle.views.specs.Noted.{PutsApart}
-use Rattle.views.proofs.Putting.{same_member, third_in, BetweenUpto, between_more, between_past}
+use Rattle.views.proofs.Putting.{same_member, third_in, BetweenUpto, between_none, between_more, between_past, between_all}
 use Rattle.views.proofs.constraints.Constraints.put_between.Goals as goal
 use Rattle.views.proofs.constraints.Constraints.put_between.Goals.{then-is_third, else-is_third}
 
@@ -30,3 +30,9 @@ loop-n-preserved c =
       | else-is_third w ↦
           subst (BetweenUpto t source reader earlier later (n + 1)) (sym w.self-is) (between_past t source reader earlier later n t' c.loop-n.invariant (sym w.if-is_third.ensures))
     ]
+
+pub loop-n-init : goal.loop-n-init
+loop-n-init c = between_none c.args.self.now c.args.source c.args.reader c.args.earlier.now c.args.later.now
+
+pub returns : goal.returns
+returns c = between_all c.args.self.now c.args.source c.args.reader c.args.earlier.now c.args.later.now c.loop-n.n c.loop-n.self c.loop-n.invariant (omega arith)
