@@ -41,7 +41,7 @@ impl Ends {
 }
 
 // The ends of each cue.
-#[derive(Drop)]
+#[derive(Clone, Copy)]
 pub struct Endings {
     cues: [Ends; 64],
 }

@@ -45,11 +45,12 @@ impl<'a, K: Item> Past<'a, K> {
         self.ended_by(Ending::Commit, cue) || self.ended_by(Ending::Abort, cue)
     }
 
-    // Whether the entry is a write of the item by a cue that has not aborted.
+    // Whether the entry is a write of the item by a cue that has not aborted. The table is asked first, since that is quick, and to
+    // ask whether two items are the same may not be.
     fn stands(&self, w: &Entry<K>, item: K) -> bool
         ensures { result ≡ (writes (K.Item.alike item) w.now.act && not (aborted self.now.entries.now w.now.cue)) }
     {
-        writes_item(&w.act, item) && !self.ended_by(Ending::Abort, w.cue)
+        !self.ended_by(Ending::Abort, w.cue) && writes_item(&w.act, item)
     }
 
     // The cue that last wrote the item, leaving out cues that have aborted.
