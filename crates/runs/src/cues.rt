@@ -1,11 +1,12 @@
 // The cues of an answer.
 ghost use Rattle.std.specs.Prelude.{◌≡◌, ◌≤◌};
 
-// Cues in their order: the first `count` cells. The memory is fixed, since an answer owns its cues and there is no heap.
+// Cues in their order: the first `count` cells, at most 64. The memory is fixed, since an answer owns its cues and there is no
+// heap.
 #[derive(Clone, Copy)]
 pub struct Cues {
-    pub(crate) list: [u32; 64],
-    pub(crate) count: usize,
+    pub list: [u32; 64],
+    pub count: usize,
     ghost few: { count ≤ 64 },
 }
 
