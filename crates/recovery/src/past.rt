@@ -45,8 +45,8 @@ impl<'a, K: Item> Past<'a, K> {
         self.ended_by(Ending::Commit, cue) || self.ended_by(Ending::Abort, cue)
     }
 
-    // Whether the entry is a write of the item by a cue that has not aborted. The table is asked first, since that is quick, and to
-    // ask whether two items are the same may not be.
+    // Whether the entry is a write of the item by a cue that has not aborted. The table is asked
+    // first, since comparing marks takes longer than that.
     fn stands(&self, w: &Entry<K>, item: K) -> bool
         ensures { result ≡ (writes (K.Item.alike item) w.now.act && not (aborted self.now.entries.now w.now.cue)) }
     {

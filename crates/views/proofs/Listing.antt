@@ -1,4 +1,4 @@
--- The members in rising order, met one number after another. Assumes nothing.
+-- The members in rising order, and their ranks, met one number after another. Assumes nothing.
 use Rattle.std.proofs.Common.{◌≡◌, ℕ, zero, suc, ◌+◌, ◌-◌, ◌<◌, ◌≤◌, Bool, true, false, cond, eqb, List, [], ◌∷◌, ◌++◌, length, take, get_or, set, filter, Some, None, sym, refl, ap, ◌∙◌, inl, inr, arith}
 use Rattle.std.specs.List.{range_with_len, position, position_or_len}
 use Rattle.std.proofs.lemmas.List.{get_or-set_same, get_or-set_other, length-set, take_more_set}
@@ -8,7 +8,7 @@ use Rattle.orders.proofs.Among.{kept_yes}
 use Rattle.history.specs.Marked.{marked}
 use Rattle.history.proofs.Committed.{cue_low, cue_high}
 use Rattle.history.proofs.Marks.{marked_cue}
-use Rattle.views.specs.Ranks.{rank_by, rank_in}
+use Rattle.views.specs.Ranks.{rank_noted, rank_in}
 
 -- the numbers below n that pass
 abbrev below : (ℕ → Bool) → ℕ → List ℕ
@@ -88,13 +88,13 @@ module _ (c : ℕ → Bool) (n : ℕ) (numbers : List ℕ) (count : ℕ) (low : 
 pub listed_all : (c : ℕ → Bool) (n : ℕ) (numbers : List ℕ) (count : ℕ) → n ≡ 65 → Listed c n numbers count → take count numbers ≡ among c
 listed_all c n numbers count e inv = inv.front ∙ below_all c n e
 
--- the table has the ranks of the cues below n that are looked at: how many there are before each
-pub record Ranked (c : ℕ → Bool) (n : ℕ) (ranks : List ℕ) : Type 0 where
+-- of each number below n that passes, its cell has how many pass before it
+pub record RankedBelow (c : ℕ → Bool) (n : ℕ) (ranks : List ℕ) : Type 0 where
   pub long : length ranks ≡ 64
   pub rank : (j : ℕ) → 1 ≤ j → j < n → c j ≡ true → get_or ranks (j - 1) 0 ≡ length (below c j)
 
-module _ (c : ℕ → Bool) (n : ℕ) (ranks : List ℕ) (low : 1 ≤ n) (inv : Ranked c n ranks) where
-  pub ranked_no : c n ≡ false → Ranked c (n + 1) ranks
+module _ (c : ℕ → Bool) (n : ℕ) (ranks : List ℕ) (low : 1 ≤ n) (inv : RankedBelow c n ranks) where
+  pub ranked_no : c n ≡ false → RankedBelow c (n + 1) ranks
   ranked_no f =
       record {
         long = inv.long;
@@ -106,7 +106,7 @@ module _ (c : ℕ → Bool) (n : ℕ) (ranks : List ℕ) (low : 1 ≤ n) (inv : 
             ];
       }
 
-  pub ranked_yes : (count : ℕ) → n ≤ 64 → count ≡ length (below c n) → Ranked c (n + 1) (set ranks (n - 1) count)
+  pub ranked_yes : (count : ℕ) → n ≤ 64 → count ≡ length (below c n) → RankedBelow c (n + 1) (set ranks (n - 1) count)
   ranked_yes count high is =
       record {
         long = length-set ranks (n - 1) count ∙ inv.long;
@@ -162,7 +162,7 @@ module _ (c : ℕ → Bool) (j : ℕ) where
       rw (at, le-ltb (length (filter c (range_with_len 1 64))) (length (filter c (range_with_len 1 64))) (omega arith)) refl
 
 -- when all are looked at the table tells the rank of each number
-pub ranked_all : (cues : List Bool) (n : ℕ) (ranks : List ℕ) → n ≡ 65 → Ranked (marked cues) n ranks → (j : ℕ) → rank_by cues ranks j ≡ rank_in cues j
+pub ranked_all : (cues : List Bool) (n : ℕ) (ranks : List ℕ) → n ≡ 65 → RankedBelow (marked cues) n ranks → (j : ℕ) → rank_noted cues ranks j ≡ rank_in cues j
 ranked_all cues n ranks e inv j =
     elim (cases_Bool (marked cues j)) [
       | inl t ↦

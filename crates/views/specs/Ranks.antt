@@ -8,6 +8,6 @@ use Rattle.history.specs.Marked.{marked}
 abbrev pub rank_in : List Bool → ℕ → Option ℕ
 rank_in cues n = position (λ m. m == n) (among (marked cues))
 
--- the rank that stands in a cue's cell of a table of ranks, where it is marked
-abbrev pub rank_by : List Bool → List ℕ → ℕ → Option ℕ
-rank_by cues ranks n = if marked cues n then Some (slice_index_or ranks (n - 1) 0) else None
+-- the rank that is noted in the cell of a cue's number, where the cue is marked
+abbrev pub rank_noted : List Bool → List ℕ → ℕ → Option ℕ
+rank_noted cues ranks n = if marked cues n then Some (slice_index_or ranks (n - 1) 0) else None

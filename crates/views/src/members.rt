@@ -4,15 +4,16 @@ ghost use Rattle.orders.specs.Orders.{among};
 ghost use Rattle.history.specs.Entries.{committed};
 ghost use Rattle.history.specs.Marked.{marked};
 ghost use Rattle.history.specs.Order.{committed_cues};
-ghost use Rattle.views.specs.Ranks.{rank_in, rank_by};
+ghost use Rattle.views.specs.Ranks.{rank_in, rank_noted};
 
 use history::{Entry, committed_cues, is_marked};
 
 // How many committed cues have views.
 pub const MOST: usize = 8;
 
-// The cues that a table marks, and their numbers in rising order: an array and a count, as there is no heap. The rank of each
-// stands in its cell of a table, since the search asks for ranks at every step.
+// The cues that a table marks, and their numbers in rising order: an array and a count, as there is
+// no heap. The rank of each stands in the cell of its number, since the search asks for ranks at
+// every step; the other cells say nothing.
 #[derive(Clone, Copy)]
 pub struct Members {
     pub cues: [bool; 64],
@@ -21,7 +22,7 @@ pub struct Members {
     ranks: [usize; 64],
     ghost few: { count ≤ 8 },
     ghost rising: { take count numbers ≡ among (marked cues) },
-    ghost ranked: { (n : ℕ) → rank_by cues ranks n ≡ rank_in cues n },
+    ghost ranked: { (n : ℕ) → rank_noted cues ranks n ≡ rank_in cues n },
 }
 
 impl Members {
