@@ -1,5 +1,6 @@
 -- The ranks of the cues that a table marks. Assumes nothing.
-use Rattle.std.specs.Prelude.{ℕ, ◌-◌, Bool, List, Some, None, Option, slice_index_or, ◌==◌, if◌then◌else◌}
+use Rattle.std.specs.Prelude.{ℕ, ◌-◌, ◌==◌, Bool, if◌then◌else◌}
+use Rattle.std.specs.Prelude.{List, Some, None, Option, slice_index_or}
 use Rattle.std.specs.List.{position}
 use Rattle.orders.specs.Orders.{among}
 use Rattle.history.specs.Marked.{marked}
